@@ -3,4 +3,4 @@ pub mod Words
 pub mod Names
 pub mod SettingWords
 pub mod Saying
-pub mod Chosen
+pub mod Additions

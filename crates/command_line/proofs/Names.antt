@@ -68,7 +68,7 @@ only_part list none =
 
 first_part : (list name further : Text) → position_or_len (λ c. c == 44) list < length list → name ≡ before_first (λ c. c == 44) list
     → further ≡ after_first (λ c. c == 44) list → parts list ≡ name ∷ parts further
-first_part list name further within first behind = slice_split_first (λ c. c == 44) list 0 within ∙ sym (λ i. first i ∷ parts (behind i))
+first_part list name further within first later = slice_split_first (λ c. c == 44) list 0 within ∙ sym (λ i. first i ∷ parts (later i))
 
 pub listed_last : (before : Expected) (list : Text) (r : Option Expected) → ((i : ℕ) → i < length list → get_or list i 0 ≢ 44)
     → MatchOption r ((after : Expected) → ¬ AddsName before list after) (AddsName before list)
@@ -81,13 +81,13 @@ pub listed_next : (before between : Expected) (list name further : Text) (r : Op
     → name ≡ before_first (λ c. c == 44) list → further ≡ after_first (λ c. c == 44) list → AddsName before name between
     → MatchOption r ((after : Expected) → ¬ AddEach between (parts further) after) (AddEach between (parts further))
     → MatchOption r ((after : Expected) → ¬ AddEach before (parts list) after) (AddEach before (parts list))
-listed_next before between list name further r within first behind adds rest =
+listed_next before between list name further r within first later adds rest =
     subst (λ (names : List Text). MatchOption r ((after : Expected) → ¬ AddEach before names after) (AddEach before names))
-    (sym (first_part list name further within first behind)) (each_next before between name (parts further) r adds rest)
+    (sym (first_part list name further within first later)) (each_next before between name (parts further) r adds rest)
 
 pub listed_none : (before : Expected) (list name further : Text) → position_or_len (λ c. c == 44) list < length list
     → name ≡ before_first (λ c. c == 44) list → further ≡ after_first (λ c. c == 44) list → ((after : Expected) → ¬ AddsName before name after)
     → (after : Expected) → ¬ AddEach before (parts list) after
-listed_none before list name further within first behind none =
+listed_none before list name further within first later none =
     subst (λ (names : List Text). (after : Expected) → ¬ AddEach before names after)
-    (sym (first_part list name further within first behind)) (λ after each. none each.0 each.1)
+    (sym (first_part list name further within first later)) (λ after each. none each.0 each.1)

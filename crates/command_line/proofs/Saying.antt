@@ -56,7 +56,7 @@ pub say_next : (before said : Said) (w : Text) (words : List Text) (r : Option S
 say_next before said w words None adds rest = λ after say.
     ⊎_elim (λ (alone : (x : Said) × AddsAlone before w x × Say x None words after).
     rest after (subst (λ (x : Said). Say x None words after) (adds_alone_once before w alone.0 said alone.1 adds) alone.2))
-    (λ (behind : Say before (Some w) words after). not_both before said after w words adds behind) say
+    (λ (later : Say before (Some w) words after). not_both before said after w words adds later) say
 say_next before said w words (Some after) adds rest = inl (said, adds, rest)
 
 pub say_later : (before : Said) (w : Text) (words : List Text) (r : Option Said) → ((after : Said) → ¬ AddsAlone before w after)
@@ -64,26 +64,26 @@ pub say_later : (before : Said) (w : Text) (words : List Text) (r : Option Said)
     → MatchOption r ((after : Said) → ¬ Say before None (w ∷ words) after) (Say before None (w ∷ words))
 say_later before w words None none rest = λ after say.
     ⊎_elim (λ (alone : (x : Said) × AddsAlone before w x × Say x None words after). none alone.0 alone.1)
-    (λ (behind : Say before (Some w) words after). rest after behind) say
+    (λ (later : Say before (Some w) words after). rest after later) say
 say_later before w words (Some after) none rest = inr rest
 
 pub say_value : (before said : Said) (w value : Text) (words : List Text) (r : Option Said) → AddsTogether before w value said
     → MatchOption r ((after : Said) → ¬ Say said None words after) (Say said None words)
     → MatchOption r ((after : Said) → ¬ Say before (Some w) (value ∷ words) after) (Say before (Some w) (value ∷ words))
-say_value before said w value words None adds rest = λ after behind.
-    rest after (subst (λ (x : Said). Say x None words after) (adds_together_once before w value behind.0 said behind.1 adds) behind.2)
+say_value before said w value words None adds rest = λ after later.
+    rest after (subst (λ (x : Said). Say x None words after) (adds_together_once before w value later.0 said later.1 adds) later.2)
 say_value before said w value words (Some after) adds rest = (said, adds, rest)
 
 pub say_no_value : (before : Said) (w value : Text) (words : List Text) → ((after : Said) → ¬ AddsTogether before w value after)
     → (after : Said) → ¬ Say before (Some w) (value ∷ words) after
-say_no_value before w value words none after behind = none behind.0 behind.1
+say_no_value before w value words none after later = none later.0 later.1
 
 -- the first of some words, and those after it
-abbrev pub behind_first : {A : Type 0} → List A → List A
-behind_first xs = take (length xs - 1) (drop 1 xs)
+abbrev pub without_first : {A : Type 0} → List A → List A
+without_first xs = take (length xs - 1) (drop 1 xs)
 
 first_word : {A : Type 0} (f : A → Text) (xs : List A) (a : A) (w : Text) → 1 ≤ length xs → a ≡ get_or xs 0 a → w ≡ f a
-    → map f xs ≡ w ∷ map f (behind_first xs)
+    → map f xs ≡ w ∷ map f (without_first xs)
 first_word f [] a w least first is = absurd (omega arith)
 first_word f (x ∷ xs) a w least first is =
     ap (λ v. v ∷ map f xs) (ap f (sym first) ∙ sym is) ∙ ap (λ rest. w ∷ map f rest) (sym (take_all (length (x ∷ xs) - 1) xs (omega arith)))
@@ -91,35 +91,35 @@ first_word f (x ∷ xs) a w least first is =
 -- what comes of words, by the first of them
 pub says_next : {A : Type 0} (f : A → Text) (before said : Said) (xs : List A) (a : A) (w : Text) (r : Option Said) → 1 ≤ length xs
     → a ≡ get_or xs 0 a → w ≡ f a → AddsAlone before w said
-    → MatchOption r ((after : Said) → ¬ Say said None (map f (behind_first xs)) after) (Say said None (map f (behind_first xs)))
+    → MatchOption r ((after : Said) → ¬ Say said None (map f (without_first xs)) after) (Say said None (map f (without_first xs)))
     → MatchOption r ((after : Said) → ¬ Say before None (map f xs) after) (Say before None (map f xs))
 says_next f before said xs a w r least first is adds rest =
     subst (λ (words : List Text). MatchOption r ((after : Said) → ¬ Say before None words after) (Say before None words))
-    (sym (first_word f xs a w least first is)) (say_next before said w (map f (behind_first xs)) r adds rest)
+    (sym (first_word f xs a w least first is)) (say_next before said w (map f (without_first xs)) r adds rest)
 
 pub says_later : {A : Type 0} (f : A → Text) (before : Said) (xs : List A) (a : A) (w v : Text) (r : Option Said) → 1 ≤ length xs
     → a ≡ get_or xs 0 a → w ≡ f a → v ≡ f a → ((after : Said) → ¬ AddsAlone before w after)
-    → MatchOption r ((after : Said) → ¬ Say before (Some v) (map f (behind_first xs)) after) (Say before (Some v) (map f (behind_first xs)))
+    → MatchOption r ((after : Said) → ¬ Say before (Some v) (map f (without_first xs)) after) (Say before (Some v) (map f (without_first xs)))
     → MatchOption r ((after : Said) → ¬ Say before None (map f xs) after) (Say before None (map f xs))
 says_later f before xs a w v r least first is also none rest =
     subst (λ (words : List Text). MatchOption r ((after : Said) → ¬ Say before None words after) (Say before None words))
     (sym (first_word f xs a v least first also))
-    (say_later before v (map f (behind_first xs)) r (subst (λ (u : Text). (after : Said) → ¬ AddsAlone before u after) (is ∙ sym also) none) rest)
+    (say_later before v (map f (without_first xs)) r (subst (λ (u : Text). (after : Said) → ¬ AddsAlone before u after) (is ∙ sym also) none) rest)
 
 pub says_value : {A : Type 0} (f : A → Text) (before said : Said) (w value : Text) (xs : List A) (a : A) (r : Option Said) → 1 ≤ length xs
     → a ≡ get_or xs 0 a → value ≡ f a → AddsTogether before w value said
-    → MatchOption r ((after : Said) → ¬ Say said None (map f (behind_first xs)) after) (Say said None (map f (behind_first xs)))
+    → MatchOption r ((after : Said) → ¬ Say said None (map f (without_first xs)) after) (Say said None (map f (without_first xs)))
     → MatchOption r ((after : Said) → ¬ Say before (Some w) (map f xs) after) (Say before (Some w) (map f xs))
 says_value f before said w value xs a r least first is adds rest =
     subst (λ (words : List Text). MatchOption r ((after : Said) → ¬ Say before (Some w) words after) (Say before (Some w) words))
-    (sym (first_word f xs a value least first is)) (say_value before said w value (map f (behind_first xs)) r adds rest)
+    (sym (first_word f xs a value least first is)) (say_value before said w value (map f (without_first xs)) r adds rest)
 
 pub says_no_value : {A : Type 0} (f : A → Text) (before : Said) (w value : Text) (xs : List A) (a : A) → 1 ≤ length xs
     → a ≡ get_or xs 0 a → value ≡ f a → ((after : Said) → ¬ AddsTogether before w value after)
     → (after : Said) → ¬ Say before (Some w) (map f xs) after
 says_no_value f before w value xs a least first is none =
     subst (λ (words : List Text). (after : Said) → ¬ Say before (Some w) words after)
-    (sym (first_word f xs a value least first is)) (say_no_value before w value (map f (behind_first xs)) none)
+    (sym (first_word f xs a value least first is)) (say_no_value before w value (map f (without_first xs)) none)
 
 -- words say one thing
 say_once : (before : Said) (name : Option Text) (words : List Text) (a b : Said) → Say before name words a → Say before name words b → a ≡ b

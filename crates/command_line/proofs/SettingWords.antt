@@ -162,31 +162,31 @@ is_equals c = c == 61
 
 split_alone : (s : Setting) (w name value : Text) → IsNoBareWord w → name ≡ before_first is_equals w → value ≡ after_first is_equals w → SaysAlone s w
     → SaysTogether s name value
-split_alone (settings.Seals n) w name value bare front behind says =
-    (front ∙ ap (before_first is_equals) says.1, subst (λ (t : Text). Writes t n) (sym (behind ∙ ap (after_first is_equals) says.1)) says.2, says.3)
-split_alone (settings.Workers n) w name value bare front behind says =
-    (front ∙ ap (before_first is_equals) says.1, subst (λ (t : Text). Writes t n) (sym (behind ∙ ap (after_first is_equals) says.1)) says.2, says.3)
-split_alone (settings.Stop n) w name value bare front behind says =
-    (front ∙ ap (before_first is_equals) says.1, subst (λ (t : Text). Writes t n) (sym (behind ∙ ap (after_first is_equals) says.1)) says.2, says.3)
-split_alone (settings.All n) w name value bare front behind says =
-    (front ∙ ap (before_first is_equals) says.1, subst (λ (t : Text). Writes t n) (sym (behind ∙ ap (after_first is_equals) says.1)) says.2, says.3)
-split_alone (settings.Every n) w name value bare front behind says =
-    (front ∙ ap (before_first is_equals) says.1, subst (λ (t : Text). Writes t n) (sym (behind ∙ ap (after_first is_equals) says.1)) says.2, says.3)
-split_alone (settings.Expect e) w name value bare front behind says =
-    (front ∙ ap (before_first is_equals) says.1, subst (λ (t : Text). Lists t e) (sym (behind ∙ ap (after_first is_equals) says.1)) says.2)
-split_alone (settings.Store Causal) w name value bare front behind says = absurd (bare.causal says)
-split_alone (settings.Store Lamport) w name value bare front behind says = absurd (bare.lamport says)
-split_alone settings.Eager w name value bare front behind says = absurd (bare.eager says)
-split_alone settings.Lines w name value bare front behind says = absurd (bare.lines says)
-split_alone settings.SkipBlank w name value bare front behind says = absurd (bare.skip_blank says)
-split_alone settings.Long w name value bare front behind says = absurd (bare.long says)
-split_alone settings.Json w name value bare front behind says = absurd (bare.json says)
-split_alone settings.Certificates w name value bare front behind says = absurd (bare.certificates says)
-split_alone settings.Svg w name value bare front behind says = absurd (bare.svg says)
-split_alone settings.Html w name value bare front behind says = absurd (bare.html says)
-split_alone settings.Events w name value bare front behind says = absurd (bare.events says)
-split_alone settings.Names w name value bare front behind says = absurd (bare.names says)
-split_alone settings.Why w name value bare front behind says = absurd (bare.why says)
+split_alone (settings.Seals n) w name value bare front later says =
+    (front ∙ ap (before_first is_equals) says.1, subst (λ (t : Text). Writes t n) (sym (later ∙ ap (after_first is_equals) says.1)) says.2, says.3)
+split_alone (settings.Workers n) w name value bare front later says =
+    (front ∙ ap (before_first is_equals) says.1, subst (λ (t : Text). Writes t n) (sym (later ∙ ap (after_first is_equals) says.1)) says.2, says.3)
+split_alone (settings.Stop n) w name value bare front later says =
+    (front ∙ ap (before_first is_equals) says.1, subst (λ (t : Text). Writes t n) (sym (later ∙ ap (after_first is_equals) says.1)) says.2, says.3)
+split_alone (settings.All n) w name value bare front later says =
+    (front ∙ ap (before_first is_equals) says.1, subst (λ (t : Text). Writes t n) (sym (later ∙ ap (after_first is_equals) says.1)) says.2, says.3)
+split_alone (settings.Every n) w name value bare front later says =
+    (front ∙ ap (before_first is_equals) says.1, subst (λ (t : Text). Writes t n) (sym (later ∙ ap (after_first is_equals) says.1)) says.2, says.3)
+split_alone (settings.Expect e) w name value bare front later says =
+    (front ∙ ap (before_first is_equals) says.1, subst (λ (t : Text). Lists t e) (sym (later ∙ ap (after_first is_equals) says.1)) says.2)
+split_alone (settings.Store Causal) w name value bare front later says = absurd (bare.causal says)
+split_alone (settings.Store Lamport) w name value bare front later says = absurd (bare.lamport says)
+split_alone settings.Eager w name value bare front later says = absurd (bare.eager says)
+split_alone settings.Lines w name value bare front later says = absurd (bare.lines says)
+split_alone settings.SkipBlank w name value bare front later says = absurd (bare.skip_blank says)
+split_alone settings.Long w name value bare front later says = absurd (bare.long says)
+split_alone settings.Json w name value bare front later says = absurd (bare.json says)
+split_alone settings.Certificates w name value bare front later says = absurd (bare.certificates says)
+split_alone settings.Svg w name value bare front later says = absurd (bare.svg says)
+split_alone settings.Html w name value bare front later says = absurd (bare.html says)
+split_alone settings.Events w name value bare front later says = absurd (bare.events says)
+split_alone settings.Names w name value bare front later says = absurd (bare.names says)
+split_alone settings.Why w name value bare front later says = absurd (bare.why says)
 
 joined_alone : (s : Setting) (w name value : Text) → w ≡ name ++ 61 ∷ value → SaysTogether s name value → SaysAlone s w
 joined_alone (settings.Seals n) w name value is says = (value, is ∙ ap (λ (t : Text). t ++ 61 ∷ value) says.0, says.1, says.2)
@@ -211,8 +211,8 @@ joined_alone settings.Why w name value is says = absurd says
 pub said_by_value : (w name value : Text) (r : Option Setting) → IsNoBareWord w → w ≡ name ++ 61 ∷ value → name ≡ before_first is_equals w
     → value ≡ after_first is_equals w → MatchOption r ((s : Setting) → ¬ SaysTogether s name value) (λ s. SaysTogether s name value)
     → MatchOption r ((s : Setting) → ¬ SaysAlone s w) (λ s. SaysAlone s w)
-said_by_value w name value None bare is front behind none = λ s says. none s (split_alone s w name value bare front behind says)
-said_by_value w name value (Some s) bare is front behind says = joined_alone s w name value is says
+said_by_value w name value None bare is front later none = λ s says. none s (split_alone s w name value bare front later says)
+said_by_value w name value (Some s) bare is front later says = joined_alone s w name value is says
 
 -- a word without one that is none of those that say something without a value, says nothing
 has_equals : (w v : Text) (i : ℕ) → ((k : ℕ) → k < length w → get_or w k 0 ≢ 61) → w ≡ v → i < length v → get_or v i 0 ≡ 61 → ⊥
@@ -243,28 +243,28 @@ no_value w bare free (settings.Expect n) says = has_equals w (codes "--expect=" 
 together_as : (w v value : Text) (s : Setting) → w ≡ v → SaysTogether s w value → SaysTogether (setting_of v value) w value
 together_as w v value s is says = subst (λ (x : Setting). SaysTogether x w value) (sym (together-read s w value says) ∙ ap (λ t. setting_of t value) is) says
 
-pub no_seals_behind : (w number : Text) → w ≡ codes "--seals" → ((n : ℕ) → n ≤ MAX_SEALS → ¬ Writes number n) → (s : Setting) → ¬ SaysTogether s w number
-no_seals_behind w number is none s says =
+pub no_seals_together : (w number : Text) → w ≡ codes "--seals" → ((n : ℕ) → n ≤ MAX_SEALS → ¬ Writes number n) → (s : Setting) → ¬ SaysTogether s w number
+no_seals_together w number is none s says =
     let so : SaysTogether (settings.Seals (number_in number)) w number = together_as w (codes "--seals") number s is says in none (number_in number) so.2 so.1
 
-pub no_workers_behind : (w number : Text) → w ≡ codes "--workers" → ((n : ℕ) → AreWorkers n → ¬ Writes number n) → (s : Setting) → ¬ SaysTogether s w number
-no_workers_behind w number is none s says =
+pub no_workers_together : (w number : Text) → w ≡ codes "--workers" → ((n : ℕ) → AreWorkers n → ¬ Writes number n) → (s : Setting) → ¬ SaysTogether s w number
+no_workers_together w number is none s says =
     let so : SaysTogether (settings.Workers (number_in number)) w number = together_as w (codes "--workers") number s is says in none (number_in number) so.2 so.1
 
-pub no_stop_behind : (w number : Text) → w ≡ codes "--stop" → ((n : ℕ) → n < MAX_SESSIONS → ¬ Writes number n) → (s : Setting) → ¬ SaysTogether s w number
-no_stop_behind w number is none s says =
+pub no_stop_together : (w number : Text) → w ≡ codes "--stop" → ((n : ℕ) → n < MAX_SESSIONS → ¬ Writes number n) → (s : Setting) → ¬ SaysTogether s w number
+no_stop_together w number is none s says =
     let so : SaysTogether (settings.Stop (number_in number)) w number = together_as w (codes "--stop") number s is says in none (number_in number) so.2 so.1
 
-pub no_expect_behind : (w list : Text) → w ≡ codes "--expect" → ((e : Expected) → ¬ Lists list e) → (s : Setting) → ¬ SaysTogether s w list
-no_expect_behind w list is none s says =
+pub no_expect_together : (w list : Text) → w ≡ codes "--expect" → ((e : Expected) → ¬ Lists list e) → (s : Setting) → ¬ SaysTogether s w list
+no_expect_together w list is none s says =
     let so : SaysTogether (settings.Expect (listed list)) w list = together_as w (codes "--expect") list s is says in none (listed list) so.1
 
-pub no_all_behind : (w number : Text) → w ≡ codes "--all" → ((n : ℕ) → IsListed n → ¬ Writes number n) → (s : Setting) → ¬ SaysTogether s w number
-no_all_behind w number is none s says =
+pub no_all_together : (w number : Text) → w ≡ codes "--all" → ((n : ℕ) → IsListed n → ¬ Writes number n) → (s : Setting) → ¬ SaysTogether s w number
+no_all_together w number is none s says =
     let so : SaysTogether (settings.All (number_in number)) w number = together_as w (codes "--all") number s is says in none (number_in number) so.2 so.1
 
-pub no_every_behind : (w number : Text) → w ≡ codes "--every" → ((n : ℕ) → IsEvery n → ¬ Writes number n) → (s : Setting) → ¬ SaysTogether s w number
-no_every_behind w number is none s says =
+pub no_every_together : (w number : Text) → w ≡ codes "--every" → ((n : ℕ) → IsEvery n → ¬ Writes number n) → (s : Setting) → ¬ SaysTogether s w number
+no_every_together w number is none s says =
     let so : SaysTogether (settings.Every (number_in number)) w number = together_as w (codes "--every") number s is says in none (number_in number) so.2 so.1
 
 -- a word that is none of the names of options says nothing

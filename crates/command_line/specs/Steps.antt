@@ -1,3 +1,3 @@
 -- What single functions say to one another, in terms of their own data: no promise to a reader rests on it.
 pub mod BareWords
-pub mod Chosen
+pub mod Arguments

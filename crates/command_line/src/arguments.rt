@@ -2,7 +2,7 @@
 ghost use Rattle.std.specs.Prelude.{◌≡◌, ◌-◌, codes, false};
 ghost use Rattle.clap.specs.Words.{rule_of};
 ghost use Rattle.command_line.specs.CommandLine.{all, every, expect, flag, number_option, store, why, workers};
-ghost use Rattle.command_line.specs.Steps.Chosen.{rule_chosen};
+ghost use Rattle.command_line.specs.Steps.Arguments.{rule_of_argument};
 
 use crate::drive::MAX_SEALS;
 use crate::help::{EVERY, WHY};
@@ -30,7 +30,7 @@ pub enum Argument<'a> {
 impl<'a> Argument<'a> {
     /// The argument, as `clap` receives it.
     pub fn for_clap(&self, alloc: Global) -> Arg<'a>
-        ensures rule { rule_of result ≡ rule_chosen self.now }
+        ensures rule { rule_of result ≡ rule_of_argument self.now }
         ensures local { result.global ≡ false }
     {
         match *self {
@@ -46,7 +46,7 @@ impl<'a> Argument<'a> {
 
 /// How many workers there are.
 pub fn workers_argument<'a>() -> Argument<'a>
-    ensures { rule_chosen result ≡ workers }
+    ensures { rule_of_argument result ≡ workers }
 {
     Argument::Number(
         "workers",
@@ -59,14 +59,14 @@ pub fn workers_argument<'a>() -> Argument<'a>
 
 /// Whether the program gives the reason of a refusal.
 pub fn why_argument<'a>() -> Argument<'a>
-    ensures { rule_chosen result ≡ why }
+    ensures { rule_of_argument result ≡ why }
 {
     Argument::Flag("why", WHY)
 }
 
 /// How many seals are taken while clients run.
 pub fn seals_argument<'a>() -> Argument<'a>
-    ensures { rule_chosen result ≡ number_option (codes "seals") 0 MAX_SEALS }
+    ensures { rule_of_argument result ≡ number_option (codes "seals") 0 MAX_SEALS }
 {
     Argument::Number(
         "seals",
@@ -79,7 +79,7 @@ pub fn seals_argument<'a>() -> Argument<'a>
 
 /// The session whose client never ends its last call.
 pub fn stop_argument<'a>() -> Argument<'a>
-    ensures { rule_chosen result ≡ number_option (codes "stop") 0 (MAX_SESSIONS - 1) }
+    ensures { rule_of_argument result ≡ number_option (codes "stop") 0 (MAX_SESSIONS - 1) }
 {
     Argument::Number(
         "stop",
@@ -92,7 +92,7 @@ pub fn stop_argument<'a>() -> Argument<'a>
 
 /// How many reads that show a fault are listed.
 pub fn all_argument<'a>() -> Argument<'a>
-    ensures { rule_chosen result ≡ all }
+    ensures { rule_of_argument result ≡ all }
 {
     Argument::Number(
         "all",
@@ -105,12 +105,12 @@ pub fn all_argument<'a>() -> Argument<'a>
 
 /// The number of events after which a log is judged again.
 pub fn every_argument<'a>() -> Argument<'a>
-    ensures { rule_chosen result ≡ every }
+    ensures { rule_of_argument result ≡ every }
 {
     Argument::Number("every", "N", 1, MAX_EVERY as u64, EVERY)
 }
 
-/// The name of a store.
+// The name of a store.
 fn store_argument<'a>(alloc: Global) -> Arg<'a>
     ensures rule { rule_of result ≡ store }
     ensures local { result.global ≡ false }
@@ -122,7 +122,7 @@ fn store_argument<'a>(alloc: Global) -> Arg<'a>
         .help("The store: causal or lamport")
 }
 
-/// An option that has no value.
+// An option that has no value.
 fn flag_option<'a>(alloc: Global, name: &'a str, help: &'a str) -> Arg<'a>
     ensures rule { rule_of result ≡ flag name.now }
     ensures local { result.global ≡ false }
@@ -153,7 +153,7 @@ fn number_option<'a>(
         .help(help)
 }
 
-/// The criteria that are expected to be met.
+// The criteria that are expected to be met.
 fn expect_option<'a>(alloc: Global) -> Arg<'a>
     ensures rule { rule_of result ≡ expect }
     ensures local { result.global ≡ false }

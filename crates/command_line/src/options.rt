@@ -32,20 +32,20 @@ fn said_in<S: AsStr>(before: &Said, words: &[S]) -> Option<Said>
 {
     match words {
         [] => Some(*before),
-        [word, behind @ ..] => match said_alone(before, word.as_str()) {
-            Some(said) => said_in(&said, behind),
-            None => said_behind(before, word.as_str(), behind),
+        [word, later @ ..] => match said_alone(before, word.as_str()) {
+            Some(said) => said_in(&said, later),
+            None => said_with_value(before, word.as_str(), later),
         },
     }
 }
 
 // All that is said after this word, which is the name of an option, and the words after it.
 #[cycle(said)]
-fn said_behind<S: AsStr>(before: &Said, word: &str, behind: &[S]) -> Option<Said>
-    ensures { MatchOption result ((after : Said) → ¬ Say before.now (Some word.now) (map S.text behind.now) after)
-        (Say before.now (Some word.now) (map S.text behind.now)) }
+fn said_with_value<S: AsStr>(before: &Said, word: &str, later: &[S]) -> Option<Said>
+    ensures { MatchOption result ((after : Said) → ¬ Say before.now (Some word.now) (map S.text later.now) after)
+        (Say before.now (Some word.now) (map S.text later.now)) }
 {
-    match behind {
+    match later {
         [] => None,
         [value, further @ ..] => match said_together(before, word, value.as_str()) {
             Some(said) => said_in(&said, further),

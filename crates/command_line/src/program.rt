@@ -3,7 +3,7 @@ ghost use Rattle.std.specs.Prelude.{◌≡◌, false, fold, IfOk};
 ghost use Rattle.clap.specs.Words.{app_of, new_app};
 ghost use Rattle.clap.specs.declared.builder.Command.TheViews.{out-Command};
 ghost use Rattle.command_line.specs.CommandLine.{check, command_line, drive, events, explain, judge, refute, replay, top};
-ghost use Rattle.command_line.specs.Steps.Chosen.{app_named, with_argument, with_command};
+ghost use Rattle.command_line.specs.Steps.Arguments.{app_named, with_argument, with_command};
 
 use crate::arguments::{
     Argument, all_argument, every_argument, seals_argument, stop_argument, why_argument,

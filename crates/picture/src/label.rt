@@ -59,7 +59,12 @@ fn with_return(alloc: Global, call: String, ret: &str) -> Result<String, AllocEr
 }
 
 // A word with a key and a number after it.
-fn word_about(alloc: Global, word: &str, key: &str, number: u64) -> Result<String, AllocError> {
+fn word_with_number(
+    alloc: Global,
+    word: &str,
+    key: &str,
+    number: u64,
+) -> Result<String, AllocError> {
     format!(in alloc; "{word}{key} {number}")
 }
 
@@ -103,9 +108,9 @@ impl Labelled for Counter {
 impl Labelled for AddRemoveSet {
     fn call_label(alloc: Global, key: &str, call: &SetCall) -> Result<String, AllocError> {
         match call {
-            SetCall::Add(element) => word_about(alloc, "add", key, *element),
-            SetCall::Remove(element) => word_about(alloc, "rem", key, *element),
-            SetCall::Has(element) => word_about(alloc, "has", key, *element),
+            SetCall::Add(element) => word_with_number(alloc, "add", key, *element),
+            SetCall::Remove(element) => word_with_number(alloc, "rem", key, *element),
+            SetCall::Has(element) => word_with_number(alloc, "has", key, *element),
         }
     }
 
@@ -120,7 +125,7 @@ impl Labelled for AddRemoveSet {
 impl Labelled for Queue {
     fn call_label(alloc: Global, key: &str, call: &QueueCall) -> Result<String, AllocError> {
         match call {
-            QueueCall::Push(value) => word_about(alloc, "push", key, *value),
+            QueueCall::Push(value) => word_with_number(alloc, "push", key, *value),
             QueueCall::Pop => format!(in alloc; "pop{key}"),
         }
     }

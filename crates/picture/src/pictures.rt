@@ -73,7 +73,8 @@ fn marks_in_memory<N: Names>(
     Ok(marks)
 }
 
-// The picture of a history and of a pattern with these marks.
+// The picture of a history and of a pattern with these marks. It is generic over the object, since a call for one object needs a proof of
+// its own (CONTRIBUTING.md says what that costs).
 fn picture_of_marked_pattern<O: Labelled, N: Names>(
     alloc: Global,
     history: &History<O>,

@@ -2,9 +2,9 @@
 use Rattle.command_line.proofs.Saying.{says_later, says_next, says_no_value, says_value}
 use Rattle.command_line.proofs.options.+said.Goals as goal
 
-pub said_behind-returns-in-None : goal.said_behind-returns-in-None
-said_behind-returns-in-None g t c =
-    says_no_value g.S.AsStr.text c.args.before.now c.args.word.now c.as_str.result.now c.args.behind.now c.value-item.result
+pub said_with_value-returns-in-None : goal.said_with_value-returns-in-None
+said_with_value-returns-in-None g t c =
+    says_no_value g.S.AsStr.text c.args.before.now c.args.word.now c.as_str.result.now c.args.later.now c.value-item.result
     c.in-len1-up.len_at_least c.value-item.is c.as_str.ensures c.in-None.ensures
 
 pub said_in-returns-in-Some : goal.said_in-returns-in-Some
@@ -14,10 +14,10 @@ said_in-returns-in-Some g t c =
 
 pub said_in-returns-in-None : goal.said_in-returns-in-None
 said_in-returns-in-None g t c =
-    says_later g.S.AsStr.text c.args.before.now c.args.words.now c.word-item.result c.as_str.result.now c.as_str-in-None.result.now c.said_behind.result
-    c.in-len1-up.len_at_least c.word-item.is c.as_str.ensures c.as_str-in-None.ensures c.in-None.ensures c.said_behind.ensures
+    says_later g.S.AsStr.text c.args.before.now c.args.words.now c.word-item.result c.as_str.result.now c.as_str-in-None.result.now c.said_with_value.result
+    c.in-len1-up.len_at_least c.word-item.is c.as_str.ensures c.as_str-in-None.ensures c.in-None.ensures c.said_with_value.ensures
 
-pub said_behind-returns-in-Some : goal.said_behind-returns-in-Some
-said_behind-returns-in-Some g t c =
-    says_value g.S.AsStr.text c.args.before.now c.in-Some.said c.args.word.now c.as_str.result.now c.args.behind.now c.value-item.result c.said_in.result
+pub said_with_value-returns-in-Some : goal.said_with_value-returns-in-Some
+said_with_value-returns-in-Some g t c =
+    says_value g.S.AsStr.text c.args.before.now c.in-Some.said c.args.word.now c.as_str.result.now c.args.later.now c.value-item.result c.said_in.result
     c.in-len1-up.len_at_least c.value-item.is c.as_str.ensures c.in-Some.ensures c.said_in.ensures

@@ -1,7 +1,7 @@
 -- The command has the first argument, and then those after it.
 use Rattle.clap.specs.Words.{app_of}
-use Rattle.command_line.specs.Steps.Chosen.{with_argument}
-use Rattle.command_line.proofs.Chosen.{each_added}
+use Rattle.command_line.specs.Steps.Arguments.{with_argument}
+use Rattle.command_line.proofs.Additions.{each_added}
 use Rattle.command_line.proofs.program.+with_arguments.Goals as goal
 
 pub returns-in-Ok-clause-app : goal.returns-in-Ok-clause-app

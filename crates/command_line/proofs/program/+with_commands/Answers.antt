@@ -1,7 +1,7 @@
 -- The program has the first command, and then those after it.
 use Rattle.clap.specs.Words.{app_of}
-use Rattle.command_line.specs.Steps.Chosen.{with_command}
-use Rattle.command_line.proofs.Chosen.{each_added}
+use Rattle.command_line.specs.Steps.Arguments.{with_command}
+use Rattle.command_line.proofs.Additions.{each_added}
 use Rattle.command_line.proofs.program.+with_commands.Goals as goal
 
 pub returns-in-Ok : goal.returns-in-Ok

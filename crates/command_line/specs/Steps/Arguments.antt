@@ -7,11 +7,11 @@ use Rattle.command_line.specs.declared.settings.CommandName.{CommandName}
 use Rattle.command_line.specs.declared.settings.CommandName.TheVariants as commands
 
 -- the rule of an argument
-abbrev pub rule_chosen : Argument → Rule
-rule_chosen arguments.Store = store
-rule_chosen arguments.Expect = expect
-rule_chosen (arguments.Flag name help) = flag name.now
-rule_chosen (arguments.Number name value least most help) = number_option name.now least most
+abbrev pub rule_of_argument : Argument → Rule
+rule_of_argument arguments.Store = store
+rule_of_argument arguments.Expect = expect
+rule_of_argument (arguments.Flag name help) = flag name.now
+rule_of_argument (arguments.Number name value least most help) = number_option name.now least most
 
 -- the command of a name
 abbrev pub app_named : CommandName → App
@@ -25,7 +25,7 @@ app_named commands.Events = events
 
 -- a command with this argument too, and one with this subcommand too
 abbrev pub with_argument : App → Argument → App
-with_argument app argument = with_rule app (rule_chosen argument)
+with_argument app argument = with_rule app (rule_of_argument argument)
 
 abbrev pub with_command : App → CommandName → App
 with_command app name = with_subcommand app (app_named name).top
