@@ -77,8 +77,7 @@ fn push_line(
             None => Ok(()),
         },
         Line::Rf(_, read) => {
-            steps.push(Step::ReadsFrom(to, *read))?;
-            steps.push(Step::Precedes(from, to, *read))
+            steps.push_two(Step::ReadsFrom(to, *read), Step::Precedes(from, to, *read))
         }
     }
 }

@@ -11,7 +11,7 @@ use std::marker::Model;
 /// names no such operations.
 ///
 /// This does not check whether they did happen in that order: `check_pattern` does.
-#[derive(Debug, Drop)]
+#[derive(Drop)]
 pub struct DerivedPairs {
     pairs: Vec<Option<Pair>>,
 }

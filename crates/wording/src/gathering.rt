@@ -91,8 +91,10 @@ fn push_link(steps: &mut Steps, link: &Link) -> Result<(), AllocError> {
             steps.lead(path)?;
             match ends_of(path) {
                 Some((write, read)) => {
-                    steps.push(Step::ReadsFrom(*other, read))?;
-                    steps.push(Step::Yields(write, *other, read))
+                    steps.push_two(
+                        Step::ReadsFrom(*other, read),
+                        Step::Yields(write, *other, read),
+                    )
                 }
                 None => Ok(()),
             }

@@ -7,6 +7,7 @@
 
 mod derivation_steps;
 mod derived_pairs;
+mod forms;
 mod gathering;
 mod listing;
 mod long_histories;
@@ -16,6 +17,7 @@ mod pattern_words;
 mod repeated_values;
 mod replayed;
 mod sentences;
+mod sorting;
 mod step;
 mod steps;
 mod unexplained;

@@ -1,9 +1,12 @@
 //! Long histories in words.
 
+use crate::forms::{Made, push_text, with_one, with_three, with_two};
 use crate::listing::listed;
 use crate::naming::{Names, counted, name_of};
+use crate::sorting::sort_once;
 use cert_check::Criterion;
 use history::{History, OpId};
+use object_trait::SeqObject;
 use objects::Memory;
 use std::alloc::{AllocError, Global};
 
@@ -20,14 +23,27 @@ pub fn words_of_long_yes<N: Names>(
     operations: usize,
     sessions: usize,
 ) -> Result<String, AllocError> {
-    let explained = match criterion {
+    let explained = String::from_str(alloc, words_of_explained(criterion));
+    let judged = counted(alloc, operations, "operation");
+    let sessions = names.sessions_words(alloc, sessions);
+    with_three(alloc, form_of_yes(operations), explained, judged, sessions)
+}
+
+// What explains a history that meets a criterion.
+fn words_of_explained(criterion: Criterion) -> &'static str {
+    match criterion {
         Criterion::Cc | Criterion::Ccv => "An order explains every known return",
         Criterion::Cm => "For each session, an order explains its known returns",
-    };
-    let were = if operations == 1 { "was" } else { "were" };
-    let operations = counted(alloc, operations, "operation")?;
-    let sessions = names.sessions_words(alloc, sessions)?;
-    format!(in alloc; "{explained}: {operations} of {sessions} {were} judged.")
+    }
+}
+
+// The form of a line on this many operations.
+fn form_of_yes(operations: usize) -> &'static str {
+    if operations == 1 {
+        "A: B of C was judged."
+    } else {
+        "A: B of C were judged."
+    }
 }
 
 /// Which operations of the whole those of a part are, session by session, in a line with no line feed.
@@ -38,49 +54,39 @@ pub fn words_of_places<N: Names>(
     part: &History<Memory>,
     names: &N,
 ) -> Result<String, AllocError> {
-    let mut places = Vec::new(alloc);
-    for session in 0..part.sessions() {
-        push_places(alloc, &mut places, names, session, part.len(session))?;
-    }
-    sentence_on_places(alloc, names, &places)
+    let ops = ops_of(alloc, part)?;
+    let words = words_of_kept(alloc, names, &ops);
+    drop(ops);
+    words
 }
 
-// Which operations of the whole those of a session of a part are; the session has this many operations.
-fn push_places<N: Names>(
-    alloc: Global,
-    places: &mut Vec<String>,
-    names: &N,
-    session: usize,
-    operations: usize,
-) -> Result<(), AllocError> {
-    for index in 0..operations {
-        let op = OpId::at(session, index);
-        places.push(place_of(alloc, names, op, op)?)?;
+// The operations of a history, in order.
+fn ops_of<O: SeqObject>(alloc: Global, h: &History<O>) -> Result<Vec<OpId>, AllocError> {
+    let mut ops = Vec::new(alloc);
+    for session in 0..h.sessions() {
+        push_session(&mut ops, session, h.len(session))?;
+    }
+    Ok(ops)
+}
+
+// Puts the operations of a session, which are this many, after others.
+fn push_session(ops: &mut Vec<OpId>, session: usize, count: usize) -> Result<(), AllocError> {
+    for index in 0..count {
+        ops.push(OpId::at(session, index))?;
     }
     Ok(())
 }
 
 // Which operation of the whole one is that has this place in a part.
-fn place_of<N: Names>(
-    alloc: Global,
-    names: &N,
-    place: OpId,
-    op: OpId,
-) -> Result<String, AllocError> {
-    let own = name_of(alloc, place)?;
-    let whole = names.operation(alloc, op)?;
-    format!(in alloc; "{own} is {whole}")
+fn place_of<N: Names>(alloc: Global, names: &N, place: OpId, op: OpId) -> Made {
+    let own = name_of(alloc, place);
+    with_two(alloc, "A is B", own, names.operation(alloc, op))
 }
 
 // What each operation of a part is, in a sentence.
-fn sentence_on_places<N: Names>(
-    alloc: Global,
-    names: &N,
-    places: &[String],
-) -> Result<String, AllocError> {
-    let places = listed(alloc, places, 0)?;
-    let whole = names.place_words();
-    format!(in alloc; "{whole}, {places}.")
+fn sentence_on_places<N: Names>(alloc: Global, names: &N, places: &[String]) -> Made {
+    let whole = String::from_str(alloc, names.place_words());
+    with_two(alloc, "A, B.", whole, listed(alloc, places, 0))
 }
 
 /// Which operation of a history each operation of a part is, in order, in a line with no line feed. The part keeps these operations
@@ -106,16 +112,20 @@ fn push_kept<N: Names>(
 ) -> Result<(), AllocError> {
     let mut next = OpId::at(0, 0);
     for op in ops {
-        if op.session != next.session {
-            next = OpId {
-                session: op.session,
-                index: 0,
-            };
-        }
-        places.push(place_of(alloc, names, next, *op)?)?;
+        next = first_from(next, op.session);
+        push_text(places, place_of(alloc, names, next, *op))?;
         next.index = next.index.saturating_add(1);
     }
     Ok(())
+}
+
+// The next place, or the first of a session if the next one is of another session.
+fn first_from(next: OpId, session: u64) -> OpId {
+    if session == next.session {
+        next
+    } else {
+        OpId { session, index: 0 }
+    }
 }
 
 /// The operations that show that a history does not meet a criterion, in order and each once, in a line with no line feed: the first
@@ -127,12 +137,18 @@ pub fn words_of_operations<N: Names>(
     names: &N,
     ops: &[OpId],
 ) -> Result<String, AllocError> {
+    let sorted = sorted_once(alloc, ops)?;
+    let named = listed_operations(alloc, names, &sorted);
+    drop(sorted);
+    with_one(alloc, "These operations show it: A.", named)
+}
+
+// Operations in order, each once.
+fn sorted_once(alloc: Global, ops: &[OpId]) -> Result<Vec<OpId>, AllocError> {
     let mut sorted = Vec::new(alloc);
     sorted.extend_from_slice(ops)?;
-    sorted.sort_unstable();
-    sorted.dedup();
-    let named = listed_operations(alloc, names, &sorted)?;
-    format!(in alloc; "These operations show it: {named}.")
+    sort_once(&mut sorted);
+    Ok(sorted)
 }
 
 // The first 1,000 operations, and how many more there are.
@@ -143,7 +159,7 @@ fn listed_operations<N: Names>(
 ) -> Result<String, AllocError> {
     let mut named = Vec::new(alloc);
     for op in ops.iter().take(MAX_NAMED) {
-        named.push(names.operation(alloc, *op)?)?;
+        push_text(&mut named, names.operation(alloc, *op))?;
     }
     listed(alloc, &named, ops.len().saturating_sub(MAX_NAMED))
 }

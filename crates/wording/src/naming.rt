@@ -1,5 +1,6 @@
 //! The names of operations, sessions, variables and values, as texts have them.
 
+use crate::forms::{Made, numbered, push_text, with_one, with_two};
 use crate::listing::listed;
 use history::OpId;
 use std::alloc::{AllocError, Global};
@@ -54,8 +55,7 @@ pub trait Names {
 
     /// The name of the session of an operation of the part.
     fn session(&self, alloc: Global, op: OpId) -> Result<String, AllocError> {
-        let session = self.in_whole(op).session;
-        format!(in alloc; "session {session}")
+        numbered(alloc, "session ", self.in_whole(op).session)
     }
 
     /// Who does what by an operation of the part, and what is known of its return, after the operation's name and a colon. None if
@@ -71,19 +71,17 @@ pub trait Names {
 
     /// The name of a variable.
     fn variable(&self, alloc: Global, key: u32) -> Result<String, AllocError> {
-        format!(in alloc; "variable {key}")
+        numbered(alloc, "variable ", u64::from(key))
     }
 
     /// The names of variables: the first 8, and how many more there are.
     fn variables(&self, alloc: Global, keys: &[u32]) -> Result<String, AllocError> {
-        let plural = if keys.len() == 1 { "" } else { "s" };
-        let named = listed_numbers(alloc, keys)?;
-        format!(in alloc; "variable{plural} {named}")
+        words_of_variables(alloc, keys)
     }
 
     /// The text of a value of a variable.
     fn value(&self, alloc: Global, _key: u32, value: u64) -> Result<String, AllocError> {
-        format!(in alloc; "{value}")
+        numbered(alloc, "", value)
     }
 
     /// What a read did that got the initial value of a variable, in the past tense.
@@ -93,9 +91,13 @@ pub trait Names {
         key: u32,
         value: u64,
     ) -> Result<String, AllocError> {
-        let value = self.value(alloc, key, value)?;
-        let variable = self.variable(alloc, key)?;
-        format!(in alloc; "read {value}, the initial value of {variable}")
+        let value = self.value(alloc, key, value);
+        with_two(
+            alloc,
+            "read A, the initial value of B",
+            value,
+            self.variable(alloc, key),
+        )
     }
 
     /// What a read did that got a value of a variable which nobody wrote, in the past tense.
@@ -105,9 +107,13 @@ pub trait Names {
         key: u32,
         value: u64,
     ) -> Result<String, AllocError> {
-        let value = self.value(alloc, key, value)?;
-        let variable = self.variable(alloc, key)?;
-        format!(in alloc; "read {value}, which nobody wrote to {variable}")
+        let value = self.value(alloc, key, value);
+        with_two(
+            alloc,
+            "read A, which nobody wrote to B",
+            value,
+            self.variable(alloc, key),
+        )
     }
 
     /// What is wrong with such a read, after what it did.
@@ -117,19 +123,21 @@ pub trait Names {
 
     /// What a write of a value did to its variable, in the past tense.
     fn write_words(&self, alloc: Global, key: u32, value: u64) -> Result<String, AllocError> {
-        let value = self.value(alloc, key, value)?;
-        format!(in alloc; "wrote {value} to it")
+        with_one(alloc, "wrote A to it", self.value(alloc, key, value))
     }
 
     /// What a variable held before the first call.
     fn initial_words(&self, alloc: Global, key: u32, value: u64) -> Result<String, AllocError> {
-        let value = self.value(alloc, key, value)?;
-        format!(in alloc; "its initial value is {value}")
+        with_one(
+            alloc,
+            "its initial value is A",
+            self.value(alloc, key, value),
+        )
     }
 }
 
 /// The names of a history that is the whole: each operation has its own.
-#[derive(Clone, Copy, Debug, Default, PartialEq, Eq)]
+#[derive(Clone, Copy)]
 pub struct OwnNames;
 
 impl Names for OwnNames {
@@ -150,11 +158,21 @@ pub fn counted(alloc: Global, number: usize, one: &'static str) -> Result<String
     format!(in alloc; "{number} {one}{plural}")
 }
 
+// The words for variables by their numbers.
+fn words_of_variables(alloc: Global, keys: &[u32]) -> Made {
+    let form = if keys.len() == 1 {
+        "variable A"
+    } else {
+        "variables A"
+    };
+    with_one(alloc, form, listed_numbers(alloc, keys))
+}
+
 // The first 8 numbers, and how many more there are.
-fn listed_numbers(alloc: Global, numbers: &[u32]) -> Result<String, AllocError> {
+fn listed_numbers(alloc: Global, numbers: &[u32]) -> Made {
     let mut named = Vec::new(alloc);
     for number in numbers.iter().take(MAX_VARIABLES) {
-        named.push(format!(in alloc; "{number}")?)?;
+        push_text(&mut named, numbered(alloc, "", u64::from(*number)))?;
     }
     listed(alloc, &named, numbers.len().saturating_sub(MAX_VARIABLES))
 }

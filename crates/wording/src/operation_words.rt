@@ -2,6 +2,7 @@
 
 ghost use Rattle.history.specs.History.{IsOp};
 
+use crate::forms::{Made, numbered, with_one, with_two};
 use crate::naming::Names;
 use history::{History, OpId};
 use object_trait::SeqObject;
@@ -33,31 +34,40 @@ pub(crate) fn operation_words<O: Worded, N: Names>(
     names: &N,
     op: OpId,
 ) -> Result<String, AllocError> {
-    let name = names.operation(alloc, op)?;
+    let name = names.operation(alloc, op);
     if !h.contains(op) {
-        return format!(in alloc; "{name} is not in the history");
+        return with_one(alloc, "A is not in the history", name);
     }
-    if let Some(phrase) = names.phrase(alloc, op)? {
-        return format!(in alloc; "{name}: {phrase}");
+    match names.phrase(alloc, op) {
+        Ok(None) => with_two(alloc, "A B", name, phrase_of(alloc, h, names, op)),
+        given => with_given(alloc, name, given),
     }
-    let phrase = phrase_of(alloc, h, names, op)?;
-    format!(in alloc; "{name} {phrase}")
+}
+
+// The name of an operation, and after it the phrase that its names give for it.
+fn with_given(alloc: Global, name: Made, given: Result<Option<String>, AllocError>) -> Made {
+    match given {
+        Ok(Some(phrase)) => with_two(alloc, "A: B", name, Ok(phrase)),
+        Ok(None) => name,
+        Err(error) => Err(error),
+    }
 }
 
 // What a session does by an operation, and what is known of its return, by its call and its return.
-fn phrase_of<O: Worded, N: Names>(
-    alloc: Global,
-    h: &History<O>,
-    names: &N,
-    op: OpId,
-) -> Result<String, AllocError>
+fn phrase_of<O: Worded, N: Names>(alloc: Global, h: &History<O>, names: &N, op: OpId) -> Made
     requires { IsOp h.now op }
 {
     let ret = h.ret(op);
-    let phrase = O::phrase(alloc, names, None, &h.call(op), ret)?;
-    match ret {
-        Some(_) => Ok(phrase),
-        None => format!(in alloc; "{phrase}, and its return is not known"),
+    let phrase = O::phrase(alloc, names, None, &h.call(op), ret);
+    with_return(alloc, phrase, ret.is_some())
+}
+
+// The same, given whether its return is known.
+fn with_return(alloc: Global, phrase: Made, is_known: bool) -> Made {
+    if is_known {
+        phrase
+    } else {
+        with_one(alloc, "A, and its return is not known", phrase)
     }
 }
 
@@ -71,48 +81,30 @@ pub fn read_of<N: Names>(
     key: u32,
     value: u64,
 ) -> Result<String, AllocError> {
-    let name = names.operation(alloc, op)?;
-    if let Some(phrase) = names.phrase(alloc, op)? {
-        return format!(in alloc; "{name}: {phrase}");
+    let name = names.operation(alloc, op);
+    match names.phrase(alloc, op) {
+        Ok(None) => with_two(alloc, "A B", name, words_of_read(alloc, names, key, value)),
+        given => with_given(alloc, name, given),
     }
-    let phrase = words_of_read(alloc, names, key, value)?;
-    format!(in alloc; "{name} {phrase}")
 }
 
 // What a session does by a read that got a value of a variable.
-fn words_of_read<N: Names>(
-    alloc: Global,
-    names: &N,
-    key: u32,
-    value: u64,
-) -> Result<String, AllocError> {
-    let value = names.value(alloc, key, value)?;
-    let variable = names.variable(alloc, key)?;
-    format!(in alloc; "reads {value} from {variable}")
+fn words_of_read<N: Names>(alloc: Global, names: &N, key: u32, value: u64) -> Made {
+    let value = names.value(alloc, key, value);
+    with_two(alloc, "reads A from B", value, names.variable(alloc, key))
 }
 
 // What a session does by a write.
-fn words_of_write<N: Names>(
-    alloc: Global,
-    names: &N,
-    key: u32,
-    value: u64,
-) -> Result<String, AllocError> {
-    let value = names.value(alloc, key, value)?;
-    let variable = names.variable(alloc, key)?;
-    format!(in alloc; "writes {value} to {variable}")
+fn words_of_write<N: Names>(alloc: Global, names: &N, key: u32, value: u64) -> Made {
+    let value = names.value(alloc, key, value);
+    with_two(alloc, "writes A to B", value, names.variable(alloc, key))
 }
 
-// A number after its words, if there is one, and else nothing.
-fn with_key(
-    alloc: Global,
-    phrase: &str,
-    words: &'static str,
-    key: Option<u32>,
-) -> Result<String, AllocError> {
+// A key and its words after a phrase, if there is a key.
+fn with_key(alloc: Global, phrase: Made, words: &'static str, key: Option<u32>) -> Made {
     match key {
-        Some(key) => format!(in alloc; "{phrase}{words}{key}"),
-        None => String::from_str(alloc, phrase),
+        Some(key) => with_two(alloc, "AB", phrase, numbered(alloc, words, u64::from(key))),
+        None => phrase,
     }
 }
 
@@ -144,10 +136,7 @@ fn words_of_variable<N: Names>(
         (RegisterCall::Read, Some(RegisterRet::Value(value))) => {
             words_of_read(alloc, names, key, value)
         }
-        (RegisterCall::Read, _) => {
-            let variable = names.variable(alloc, key)?;
-            format!(in alloc; "reads {variable}")
-        }
+        (RegisterCall::Read, _) => { with_one(alloc, "reads A", names.variable(alloc, key)) }
     }
 }
 
@@ -158,9 +147,9 @@ fn words_of_register(
     ret: Option<RegisterRet>,
 ) -> Result<String, AllocError> {
     match (call, ret) {
-        (RegisterCall::Write(value), _) => format!(in alloc; "writes {value}"),
+        (RegisterCall::Write(value), _) => numbered(alloc, "writes ", *value),
         (RegisterCall::Read, Some(RegisterRet::Value(value))) => {
-            format!(in alloc; "reads {value}")
+            numbered(alloc, "reads ", value)
         }
         (RegisterCall::Read, _) => String::from_str(alloc, "reads"),
     }
@@ -174,13 +163,31 @@ impl Worded for Counter {
         call: &CounterCall,
         ret: Option<CounterRet>,
     ) -> Result<String, AllocError> {
-        match (call, ret) {
-            (CounterCall::Increment, _) => with_key(alloc, "increments", " key ", key),
-            (CounterCall::Get, Some(CounterRet::Value(value))) => {
-                let phrase = format!(in alloc; "gets {value}")?;
-                with_key(alloc, &phrase, " from key ", key)
-            }
-            (CounterCall::Get, _) => with_key(alloc, "gets the count", " of key ", key),
+        words_of_counter(alloc, key, call, ret)
+    }
+}
+
+// What a session does by a call of a counter, at a key if there is one.
+fn words_of_counter(
+    alloc: Global,
+    key: Option<u32>,
+    call: &CounterCall,
+    ret: Option<CounterRet>,
+) -> Made {
+    match (call, ret) {
+        (CounterCall::Increment, _) => {
+            with_key(alloc, String::from_str(alloc, "increments"), " key ", key)
+        }
+        (CounterCall::Get, Some(CounterRet::Value(value))) => {
+            with_key(alloc, numbered(alloc, "gets ", value), " from key ", key)
+        }
+        (CounterCall::Get, _) => {
+            with_key(
+                alloc,
+                String::from_str(alloc, "gets the count"),
+                " of key ",
+                key,
+            )
         }
     }
 }
@@ -193,21 +200,24 @@ impl Worded for AddRemoveSet {
         call: &SetCall,
         ret: Option<SetRet>,
     ) -> Result<String, AllocError> {
-        let phrase = words_of_set(alloc, call, ret)?;
-        with_key(alloc, &phrase, " at key ", key)
+        with_key(alloc, words_of_set(alloc, call, ret), " at key ", key)
     }
 }
 
 // What a session does by a call of a set.
-fn words_of_set(alloc: Global, call: &SetCall, ret: Option<SetRet>) -> Result<String, AllocError> {
+fn words_of_set(alloc: Global, call: &SetCall, ret: Option<SetRet>) -> Made {
+    let (words, element) = set_words(call, ret);
+    numbered(alloc, words, element)
+}
+
+// The words for a call of a set, and the element after them.
+fn set_words(call: &SetCall, ret: Option<SetRet>) -> (&'static str, u64) {
     match (call, ret) {
-        (SetCall::Add(element), _) => format!(in alloc; "adds {element}"),
-        (SetCall::Remove(element), _) => format!(in alloc; "removes {element}"),
-        (SetCall::Has(element), Some(SetRet::Has(true))) => { format!(in alloc; "finds {element}") }
-        (SetCall::Has(element), Some(SetRet::Has(false))) => {
-            format!(in alloc; "does not find {element}")
-        }
-        (SetCall::Has(element), _) => format!(in alloc; "looks for {element}"),
+        (SetCall::Add(element), _) => ("adds ", *element),
+        (SetCall::Remove(element), _) => ("removes ", *element),
+        (SetCall::Has(element), Some(SetRet::Has(true))) => ("finds ", *element),
+        (SetCall::Has(element), Some(SetRet::Has(false))) => ("does not find ", *element),
+        (SetCall::Has(element), _) => ("looks for ", *element),
     }
 }
 
@@ -219,22 +229,15 @@ impl Worded for Queue {
         call: &QueueCall,
         ret: Option<QueueRet>,
     ) -> Result<String, AllocError> {
-        let phrase = words_of_queue(alloc, call, ret)?;
-        with_key(alloc, &phrase, " at key ", key)
+        with_key(alloc, words_of_queue(alloc, call, ret), " at key ", key)
     }
 }
 
 // What a session does by a call of a queue.
-fn words_of_queue(
-    alloc: Global,
-    call: &QueueCall,
-    ret: Option<QueueRet>,
-) -> Result<String, AllocError> {
+fn words_of_queue(alloc: Global, call: &QueueCall, ret: Option<QueueRet>) -> Made {
     match (call, ret) {
-        (QueueCall::Push(value), _) => format!(in alloc; "pushes {value}"),
-        (QueueCall::Pop, Some(QueueRet::Popped(Some(value)))) => {
-            format!(in alloc; "pops {value}")
-        }
+        (QueueCall::Push(value), _) => numbered(alloc, "pushes ", *value),
+        (QueueCall::Pop, Some(QueueRet::Popped(Some(value)))) => numbered(alloc, "pops ", value),
         (QueueCall::Pop, Some(QueueRet::Popped(None))) => String::from_str(alloc, "pops nothing"),
         (QueueCall::Pop, _) => String::from_str(alloc, "pops"),
     }

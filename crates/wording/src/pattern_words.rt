@@ -1,10 +1,13 @@
 //! Patterns in words.
 
+use crate::forms::{Made, numbered, push_text, with_one};
 use crate::gathering::{Outline, outline_of};
 use crate::naming::Names;
 use crate::operation_words::operation_words;
-use crate::sentences::sentence_of;
+use crate::sentences::{NOTHING, sentence_of};
+use crate::sorting::sort_once;
 use crate::step::Step;
+use crate::steps::Steps;
 use bad_patterns::Pattern;
 use history::{History, OpId};
 use objects::Memory;
@@ -24,37 +27,25 @@ pub fn words_of_pattern<N: Names>(
     names: &N,
     pattern: &Pattern,
 ) -> Result<Vec<String>, AllocError> {
-    let mut lines = Vec::new(alloc);
-    push_pattern(alloc, &mut lines, h, names, pattern)?;
-    Ok(lines)
-}
-
-// The lines of a pattern.
-fn push_pattern<N: Names>(
-    alloc: Global,
-    lines: &mut Vec<String>,
-    h: &History<Memory>,
-    names: &N,
-    pattern: &Pattern,
-) -> Result<(), AllocError> {
     let outline = outline_of(alloc, h, pattern)?;
-    push_outline(alloc, lines, h, names, pattern, &outline)
+    let lines = lines_of(alloc, h, names, pattern, &outline);
+    drop(outline);
+    lines
 }
 
 // The lines of a pattern of which this is to be said.
-fn push_outline<N: Names>(
+fn lines_of<N: Names>(
     alloc: Global,
-    lines: &mut Vec<String>,
     h: &History<Memory>,
     names: &N,
     pattern: &Pattern,
     outline: &Outline,
-) -> Result<(), AllocError> {
-    push_operations(alloc, lines, h, names, outline)?;
-    push_steps(alloc, lines, names, outline.steps.first())?;
-    push_left_out(alloc, lines, outline.steps.left_out())?;
-    push_steps(alloc, lines, names, outline.steps.last())?;
-    Ok(lines.push(last_line(alloc, h, names, pattern, outline)?)?)
+) -> Result<Vec<String>, AllocError> {
+    let mut lines = Vec::new(alloc);
+    push_operations(alloc, &mut lines, h, names, outline)?;
+    push_shown(alloc, &mut lines, names, &outline.steps)?;
+    push_text(&mut lines, last_line(alloc, h, names, pattern, outline))?;
+    Ok(lines)
 }
 
 // The operations that the text names, by session and index.
@@ -65,14 +56,19 @@ fn push_operations<N: Names>(
     names: &N,
     outline: &Outline,
 ) -> Result<(), AllocError> {
-    let mut ops = Vec::new(alloc);
-    push_named(&mut ops, outline)?;
-    ops.sort_unstable();
-    ops.dedup();
+    let ops = ops_of(alloc, outline)?;
     for op in &ops {
-        lines.push(operation_words(alloc, h, names, *op)?)?;
+        push_text(lines, operation_words(alloc, h, names, *op))?;
     }
     Ok(())
+}
+
+// The operations that the text names, each once.
+fn ops_of(alloc: Global, outline: &Outline) -> Result<Vec<OpId>, AllocError> {
+    let mut ops = Vec::new(alloc);
+    push_named(&mut ops, outline)?;
+    sort_once(&mut ops);
+    Ok(ops)
 }
 
 // Puts the operations that the text names after others.
@@ -94,6 +90,18 @@ fn push_ops(ops: &mut Vec<OpId>, steps: &[Step]) -> Result<(), AllocError> {
     Ok(())
 }
 
+// The first steps in words, how many are left out, and the last steps.
+fn push_shown<N: Names>(
+    alloc: Global,
+    lines: &mut Vec<String>,
+    names: &N,
+    steps: &Steps,
+) -> Result<(), AllocError> {
+    push_steps(alloc, lines, names, steps.first())?;
+    push_left_out(alloc, lines, steps.left_out())?;
+    push_steps(alloc, lines, names, steps.last())
+}
+
 // Steps in words.
 fn push_steps<N: Names>(
     alloc: Global,
@@ -102,7 +110,7 @@ fn push_steps<N: Names>(
     steps: &[Step],
 ) -> Result<(), AllocError> {
     for step in steps {
-        lines.push(step.words(alloc, names)?)?;
+        push_text(lines, step.words(alloc, names))?;
     }
     Ok(())
 }
@@ -110,9 +118,11 @@ fn push_steps<N: Names>(
 // How many steps are left out, if any are.
 fn push_left_out(alloc: Global, lines: &mut Vec<String>, left_out: u64) -> Result<(), AllocError> {
     if left_out > 0 {
-        lines.push(format!(in alloc; "({left_out} more steps are left out here)")?)?;
+        let form = "(A more steps are left out here)";
+        push_text(lines, with_one(alloc, form, numbered(alloc, "", left_out)))
+    } else {
+        Ok(())
     }
-    Ok(())
 }
 
 // What is wrong.
@@ -122,13 +132,9 @@ fn last_line<N: Names>(
     names: &N,
     pattern: &Pattern,
     outline: &Outline,
-) -> Result<String, AllocError> {
-    let sentence = match outline.ends {
-        Some(ends) => sentence_of(alloc, h, names, pattern, ends)?,
-        None => None,
-    };
-    match sentence {
-        Some(sentence) => Ok(sentence),
-        None => String::from_str(alloc, "These operations show nothing in this history."),
+) -> Made {
+    match outline.ends {
+        Some(ends) => sentence_of(alloc, h, names, pattern, ends),
+        None => String::from_str(alloc, NOTHING),
     }
 }

@@ -1,5 +1,6 @@
 //! Which values of a history of a memory are not distinct.
 
+use crate::forms::{Made, numbered, push_text, with_one, with_three, with_two};
 use crate::naming::{MAX_VARIABLES, Names};
 use bad_patterns::Kind;
 use memory_order::{IndexedMemory, Write, initial_value};
@@ -15,9 +16,21 @@ pub fn words_of_repeated_values<N: Names>(
     names: &N,
 ) -> Result<Vec<String>, AllocError> {
     let repeated = repeated_writes(alloc, memory)?;
+    let lines = lines_of(alloc, memory, names, &repeated);
+    drop(repeated);
+    lines
+}
+
+// The lines on the first of these writes, and how many more there are.
+fn lines_of<N: Names>(
+    alloc: Global,
+    memory: &IndexedMemory,
+    names: &N,
+    repeated: &[(usize, Write)],
+) -> Result<Vec<String>, AllocError> {
     let mut lines = Vec::new(alloc);
     for (place, write) in repeated.iter().take(MAX_VARIABLES) {
-        lines.push(words_of(alloc, memory, names, *place, write)?)?;
+        push_text(&mut lines, words_of(alloc, memory, names, *place, write))?;
     }
     push_left_out(
         alloc,
@@ -48,9 +61,9 @@ pub fn words_without_variables<N: Names>(
     variables: &[u32],
     kind: Kind,
 ) -> Result<String, AllocError> {
-    let named = names.variables(alloc, variables)?;
-    let kind = kind.name();
-    format!(in alloc; "Without {named}: no {kind}")
+    let named = names.variables(alloc, variables);
+    let kind = String::from_str(alloc, kind.name());
+    with_two(alloc, "Without A: no B", named, kind)
 }
 
 // The first write that shows that a variable's values are not distinct, with its place among the writes, for each such variable.
@@ -94,32 +107,37 @@ fn words_of<N: Names>(
     names: &N,
     place: usize,
     write: &Write,
-) -> Result<String, AllocError> {
-    let written = words_of_write(alloc, names, write)?;
-    let name = names.operation(alloc, write.op)?;
+) -> Made {
+    let written = words_of_write(alloc, names, write);
+    let name = names.operation(alloc, write.op);
     if is_of_initial_value(memory, write) {
-        return format!(in alloc; "{name} writes {written}, which is its initial value");
+        let form = "A writes B, which is its initial value";
+        return with_two(alloc, form, name, written);
     }
     match next_alike(memory, place, write) {
         Some(next) => {
-            let other = names.operation(alloc, next.op)?;
-            format!(in alloc; "{name} and {other} both write {written}")
+            let other = names.operation(alloc, next.op);
+            with_three(alloc, "A and B both write C", name, other, written)
         }
-        None => format!(in alloc; "{name} writes {written}"),
+        None => with_two(alloc, "A writes B", name, written),
     }
 }
 
 // What a write writes, and to which variable.
-fn words_of_write<N: Names>(alloc: Global, names: &N, write: &Write) -> Result<String, AllocError> {
-    let variable = names.variable(alloc, write.key)?;
-    let value = names.value(alloc, write.key, write.value)?;
-    format!(in alloc; "{value} to {variable}")
+fn words_of_write<N: Names>(alloc: Global, names: &N, write: &Write) -> Made {
+    let value = names.value(alloc, write.key, write.value);
+    with_two(alloc, "A to B", value, names.variable(alloc, write.key))
 }
 
 // How many variables are left out, if any are.
 fn push_left_out(alloc: Global, lines: &mut Vec<String>, more: usize) -> Result<(), AllocError> {
     if more > 0 {
-        lines.push(format!(in alloc; "(so it is with {more} more variables)")?)?;
+        let form = "(so it is with A more variables)";
+        push_text(
+            lines,
+            with_one(alloc, form, numbered(alloc, "", more as u64)),
+        )
+    } else {
+        Ok(())
     }
-    Ok(())
 }

@@ -1,6 +1,5 @@
 //! The answer that an operation would have got in the order of a certificate.
 
-ghost use Rattle.std.specs.Prelude.{IfSome};
 ghost use Rattle.history.specs.History.{IsOp};
 
 use causal_order::{Vectors, has_counted};
@@ -88,11 +87,13 @@ fn unlike_in<O: SeqObject>(
 ) -> Result<Option<(OpId, O::Ret)>, AllocError> {
     let mut counts = vec![in alloc; 0u64; h.sessions()]?;
     for session in piece.list {
-        let Some(next) = next_of(h, &mut counts, *session) else {
-            return Ok(None);
-        };
-        if let Some(answer) = unlike_at(h, piece, object, next)? {
-            return Ok(Some((next, answer)));
+        match next_of(&mut counts, *session) {
+            Some(next) if h.contains(next) => {
+                if let Some(answer) = unlike_at(h, piece, object, next)? {
+                    return Ok(Some((next, answer)));
+                }
+            }
+            _ => return Ok(None),
         }
     }
     Ok(None)
@@ -111,38 +112,22 @@ fn unlike_at<O: SeqObject>(
         return Ok(None);
     }
     let answer = object.apply(h.call(next))?;
-    if piece.kept.keeps(next) && is_unlike(h, next, answer) {
-        Ok(Some(answer))
-    } else {
-        Ok(None)
+    match h.ret(next) {
+        Some(known) if known != answer && piece.kept.keeps(next) => Ok(Some(answer)),
+        _ => Ok(None),
     }
 }
 
-// The next operation of a session, if there is one; it is then counted.
-fn next_of<O: SeqObject>(h: &History<O>, counts: &mut Vec<u64>, session: u8) -> Option<OpId>
-    ensures { IfSome result (IsOp h.now) }
-{
+// The operation of a session that these counts name next, where they count the session. It is then counted.
+fn next_of(counts: &mut Vec<u64>, session: u8) -> Option<OpId> {
     let place = usize::from(session);
     if place >= counts.len() {
         return None;
     }
-    let op = OpId {
+    let index = counts[place];
+    counts[place] = index.saturating_add(1);
+    Some(OpId {
         session: u64::from(session),
-        index: counts[place],
-    };
-    if !h.contains(op) {
-        return None;
-    }
-    counts[place] = counts[place].saturating_add(1);
-    Some(op)
-}
-
-// Whether the return of an operation is known and differs from this one.
-fn is_unlike<O: SeqObject>(h: &History<O>, op: OpId, answer: O::Ret) -> bool
-    requires { IsOp h.now op }
-{
-    match h.ret(op) {
-        Some(known) => known != answer,
-        None => false,
-    }
+        index,
+    })
 }

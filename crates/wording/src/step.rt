@@ -1,8 +1,9 @@
 //! The steps of what shows a pattern.
 
+use crate::forms::{Made, with_three};
 use crate::naming::Names;
 use history::OpId;
-use std::alloc::{AllocError, Global};
+use std::alloc::Global;
 
 /// How one operation comes before another.
 #[derive(Clone, Copy, PartialEq, Eq)]
@@ -44,34 +45,25 @@ impl Step {
     }
 
     /// The step in words, with the names of its operations.
-    pub fn words<N: Names>(self, alloc: Global, names: &N) -> Result<String, AllocError> {
+    pub fn words<N: Names>(self, alloc: Global, names: &N) -> Made {
         let [first, second, third] = self.ops();
-        let a = names.operation(alloc, first)?;
-        let b = names.operation(alloc, second)?;
-        let c = names.operation(alloc, third)?;
-        self.words_with(alloc, &a, &b, &c)
+        let a = names.operation(alloc, first);
+        let b = names.operation(alloc, second);
+        with_three(alloc, self.form(), a, b, names.operation(alloc, third))
     }
 
-    // The step in words, with these names of its operations.
-    fn words_with(self, alloc: Global, a: &str, b: &str, c: &str) -> Result<String, AllocError> {
+    // The form of the step in words: `A`, `B` and `C` are the places of its operations, in order.
+    fn form(self) -> &'static str {
         match self {
-            Step::Follows(_, _) => format!(in alloc; "{b} follows {a} in its session"),
-            Step::ReadsFrom(_, _) => format!(in alloc; "{b} reads from {a}"),
-            Step::Leads(_, _) => format!(in alloc; "so {a} comes before {b}"),
-            Step::Joins(_, _, _) => {
-                format!(in alloc;
-                    "{a} comes before {c}, since it comes before {b}, and that before {c}"
-                )
-            }
+            Step::Follows(_, _) => "B follows A in its session",
+            Step::ReadsFrom(_, _) => "B reads from A",
+            Step::Leads(_, _) => "so A comes before B",
+            Step::Joins(_, _, _) => "A comes before C, since it comes before B, and that before C",
             Step::Precedes(_, _, _) => {
-                format!(in alloc;
-                    "{a} comes before {b}, since {c} reads from {b} and {a} comes before {c}"
-                )
+                "A comes before B, since C reads from B and A comes before C"
             }
             Step::Yields(_, _, _) => {
-                format!(in alloc;
-                    "{b} overwrites {a} in arbitration, since {c} reads from {b} and {a} comes before {c}"
-                )
+                "B overwrites A in arbitration, since C reads from B and A comes before C"
             }
         }
     }

@@ -59,6 +59,12 @@ impl Steps {
         Ok(())
     }
 
+    /// Adds two steps, one after the other.
+    pub fn push_two(&mut self, first: Step, second: Step) -> Result<(), AllocError> {
+        self.push(first)?;
+        self.push(second)
+    }
+
     /// Leaves out a number of steps, and with them those before them that are not among the first.
     pub fn leave_out(&mut self, count: u64) {
         let before = self.last.len() as u64;

@@ -2,6 +2,7 @@
 
 ghost use Rattle.history.specs.History.{IsOp};
 
+use crate::forms::{Made, push_text, with_one, with_two};
 use crate::naming::Names;
 use crate::operation_words::{Worded, operation_words};
 use crate::replayed::unlike_answer;
@@ -21,8 +22,8 @@ pub fn push_unexplained<O: Worded, N: Names>(
     certificate: Option<&Certificate>,
     op: OpId,
 ) -> Result<(), AllocError> {
-    lines.push(operation_words(alloc, h, names, op)?)?;
-    lines.push(words_of_unexplained(alloc, names, op)?)?;
+    push_text(lines, operation_words(alloc, h, names, op))?;
+    push_text(lines, words_of_unexplained(alloc, names, op))?;
     match certificate {
         Some(certificate) => push_answer(alloc, lines, h, names, certificate, op),
         None => Ok(()),
@@ -30,13 +31,9 @@ pub fn push_unexplained<O: Worded, N: Names>(
 }
 
 // Which operation the certificate does not explain.
-fn words_of_unexplained<N: Names>(
-    alloc: Global,
-    names: &N,
-    op: OpId,
-) -> Result<String, AllocError> {
-    let name = names.operation(alloc, op)?;
-    format!(in alloc; "The certificate that was made does not explain {name}.")
+fn words_of_unexplained<N: Names>(alloc: Global, names: &N, op: OpId) -> Made {
+    let form = "The certificate that was made does not explain A.";
+    with_one(alloc, form, names.operation(alloc, op))
 }
 
 // The answer in the order of a certificate, if it differs.
@@ -52,9 +49,10 @@ fn push_answer<O: Worded, N: Names>(
         return Ok(());
     };
     if h.contains(unlike) {
-        lines.push(words_of_answer(alloc, h, names, unlike, answer)?)?;
+        push_text(lines, words_of_answer(alloc, h, names, unlike, answer))
+    } else {
+        Ok(())
     }
-    Ok(())
 }
 
 // What an operation does in the order of a certificate, where it gets this answer.
@@ -64,10 +62,14 @@ fn words_of_answer<O: Worded, N: Names>(
     names: &N,
     op: OpId,
     answer: O::Ret,
-) -> Result<String, AllocError>
+) -> Made
     requires { IsOp h.now op }
 {
-    let phrase = O::phrase(alloc, names, None, &h.call(op), Some(answer))?;
-    let name = names.operation(alloc, op)?;
-    format!(in alloc; "In its order {name} {phrase}.")
+    let phrase = O::phrase(alloc, names, None, &h.call(op), Some(answer));
+    with_two(
+        alloc,
+        "In its order A B.",
+        names.operation(alloc, op),
+        phrase,
+    )
 }
