@@ -15,7 +15,7 @@ pub fn listed(alloc: Global, names: &[String], more: usize) -> Result<String, Al
     Ok(text)
 }
 
-// Puts names after the text, each with what stands before it.
+// Puts names after the text, each with a comma or `and` before it where one belongs there.
 fn push_listed(text: &mut String, names: &[String], more: usize) -> Result<(), AllocError> {
     for (place, name) in names.iter().enumerate() {
         text.push_str(before_name(place, names.len(), more))?;
@@ -24,7 +24,7 @@ fn push_listed(text: &mut String, names: &[String], more: usize) -> Result<(), A
     Ok(())
 }
 
-// What stands before the name at a place among this many names.
+// The text before the name at a place among this many names.
 fn before_name(place: usize, count: usize, more: usize) -> &'static str {
     if place == 0 {
         ""
