@@ -1,6 +1,6 @@
 pub mod PatternDepth
 pub mod CertificateDepth
-pub mod AfterWord
+pub mod Openings
 pub mod ClaimParts
 pub mod Claims
 pub mod PatternForms

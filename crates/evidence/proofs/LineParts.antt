@@ -9,31 +9,12 @@ use Rattle.bad_patterns.specs.declared.derivation.Line.{Line}
 use Rattle.bad_patterns.specs.declared.derivation.Line.TheVariants.{Co, Tr, Rf}
 use Rattle.evidence.specs.PatternForm.{line_form, op_form, path_form}
 use Rattle.evidence.proofs.OtherWords.{other_word}
-use Rattle.evidence.specs.declared.derivation.LineWord.{LineWord}
-use Rattle.evidence.specs.declared.derivation.LineWord.TheVariants as words
-use Rattle.evidence.specs.Steps.Taken.{both, line_begun, line_parts, line_taken}
-use Rattle.evidence.specs.Steps.PartWords.{line_word}
-use Rattle.evidence.specs.Words.{word_form}
+use Rattle.evidence.specs.Steps.Taken.{both, line_parts}
 
 pub line_list : (l : Line) → list (line_parts l) ≡ line_form l
 line_list (Co above below) = refl
 line_list (Tr i j) = refl
 line_list (Rf i r) = refl
-
-pub begun_line : (w : LineWord) → line_taken (line_begun w) ≡ word_form line_word w ∷ []
-begun_line words.Co = refl
-begun_line words.Tr = refl
-begun_line words.Rf = refl
-
-pub no_empty_line : (l : Line) → [] ≢ line_parts l
-no_empty_line (Co above below) same = absurd cc
-no_empty_line (Tr i j) same = absurd cc
-no_empty_line (Rf i r) same = absurd cc
-
-pub no_line_unnamed : (d : Data) (more : List Data) → ((w : LineWord) → d ≢ word_form line_word w) → (l : Line) → d ∷ more ≢ line_parts l
-no_line_unnamed d more none (Co above below) same = let first : d ≡ string (codes "co") = cc in none words.Co first
-no_line_unnamed d more none (Tr i j) same = let first : d ≡ string (codes "tr") = cc in none words.Tr first
-no_line_unnamed d more none (Rf i r) same = let first : d ≡ string (codes "rf") = cc in none words.Rf first
 
 module _ (es : List Data) where
   pub no_causal_line : ((x : List OpId × List OpId) → es ≢ both path_form path_form x) → (l : Line) → string (codes "co") ∷ es ≢ line_parts l

@@ -8,27 +8,11 @@ use Rattle.bad_patterns.specs.declared.link.Link.{Link}
 use Rattle.bad_patterns.specs.declared.link.Link.TheVariants.{Co, Cf}
 use Rattle.evidence.specs.PatternForm.{link_form, op_form, path_form}
 use Rattle.evidence.proofs.OtherWords.{other_word}
-use Rattle.evidence.specs.declared.link.LinkWord.{LinkWord}
-use Rattle.evidence.specs.declared.link.LinkWord.TheVariants as words
-use Rattle.evidence.specs.Steps.Taken.{both, link_begun, link_parts, link_taken}
-use Rattle.evidence.specs.Steps.PartWords.{link_word}
-use Rattle.evidence.specs.Words.{word_form}
+use Rattle.evidence.specs.Steps.Taken.{both, link_parts}
 
 pub link_list : (l : Link) → list (link_parts l) ≡ link_form l
 link_list (Co a b) = refl
 link_list (Cf path b) = refl
-
-pub begun_link : (w : LinkWord) → link_taken (link_begun w) ≡ word_form link_word w ∷ []
-begun_link words.Co = refl
-begun_link words.Cf = refl
-
-pub no_empty_link : (l : Link) → [] ≢ link_parts l
-no_empty_link (Co a b) same = absurd cc
-no_empty_link (Cf path b) same = absurd cc
-
-pub no_link_unnamed : (d : Data) (more : List Data) → ((w : LinkWord) → d ≢ word_form link_word w) → (l : Link) → d ∷ more ≢ link_parts l
-no_link_unnamed d more none (Co a b) same = let first : d ≡ string (codes "co") = cc in none words.Co first
-no_link_unnamed d more none (Cf path b) same = let first : d ≡ string (codes "cf") = cc in none words.Cf first
 
 module _ (es : List Data) where
   pub no_edge : ((x : OpId × OpId) → es ≢ both op_form op_form x) → (l : Link) → string (codes "co") ∷ es ≢ link_parts l

@@ -14,9 +14,8 @@ use Rattle.bad_patterns.specs.KindNames.{kind_name}
 use Rattle.evidence.specs.PatternForm.{form_of, lines_form, links_form, op_form, path_form}
 use Rattle.bad_patterns.specs.Patterns.{kind_of}
 use Rattle.evidence.proofs.OtherWords.{other_word}
-use Rattle.evidence.specs.Steps.PatternTaken.{pattern_begun, pattern_parts, pattern_taken, shown_parts}
+use Rattle.evidence.specs.Steps.PatternTaken.{pattern_parts, shown_parts}
 use Rattle.evidence.specs.Steps.Taken.{both, one}
-use Rattle.evidence.specs.Words.{word_form}
 
 pub pattern_list : (p : Pattern) → list (pattern_parts p) ≡ form_of p
 pattern_list (CyclicCO path) = refl
@@ -26,21 +25,6 @@ pattern_list (WriteCORead above below) = refl
 pattern_list (WriteHBInitRead o lines) = refl
 pattern_list (CyclicHB o lines) = refl
 pattern_list (CyclicCF links) = refl
-
-pub begun_pattern : (k : Kind) → pattern_taken (pattern_begun k) ≡ word_form kind_name k ∷ []
-begun_pattern kinds.CyclicCO = refl
-begun_pattern kinds.ThinAirRead = refl
-begun_pattern kinds.WriteCOInitRead = refl
-begun_pattern kinds.WriteCORead = refl
-begun_pattern kinds.WriteHBInitRead = refl
-begun_pattern kinds.CyclicHB = refl
-begun_pattern kinds.CyclicCF = refl
-
-pub no_empty_pattern : (p : Pattern) → [] ≢ pattern_parts p
-no_empty_pattern p same = absurd cc
-
-pub no_pattern_unnamed : (d : Data) (more : List Data) → ((k : Kind) → d ≢ word_form kind_name k) → (p : Pattern) → d ∷ more ≢ pattern_parts p
-no_pattern_unnamed d more none p same = let first : d ≡ string (kind_name (kind_of p)) = cc in none (kind_of p) first
 
 module _ (es : List Data) where
   -- a list that begins with the name of this kind is that of a pattern of it alone

@@ -17,11 +17,11 @@ no_items form (a ∷ before) d more none (b ∷ items) same = let rest : map for
 
 module _ {W : Type 0} (parts : W → List Data) (d : Data) where
   -- what is read of the elements of a list is read of the list
-  list_read : (ds : List Data) → elements d ≡ Some ds → (r : Option W) → IsRead parts ds r → IsRead (λ (w : W). list (parts w)) d r
+  pub list_read : (ds : List Data) → elements d ≡ Some ds → (r : Option W) → IsRead parts ds r → IsRead (λ (w : W). list (parts w)) d r
   list_read ds e None none = λ w same. none w (same_Some ds (parts w) (sym e ∙ ap elements same ∙ elements-list (parts w)))
   list_read ds e (Some w) is = list_from_elements d ds e ∙ ap list is
 
-  no_list : elements d ≡ None → (w : W) → d ≢ list (parts w)
+  pub no_list : elements d ≡ None → (w : W) → d ≢ list (parts w)
   no_list e w same = let bad : None ≡ Some (parts w) = sym e ∙ ap elements same ∙ elements-list (parts w) in absurd cc
 
   module _ {S : Type 0} (is_of : S → List Data → Type 0) (refuses : List Data → Type 0) (s : S) where

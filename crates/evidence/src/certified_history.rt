@@ -22,7 +22,6 @@ use token_reader::{Gather, gather_text, next_history, pass_value};
 type Pair = Result<(AnyHistory, FoundCertificate), ReadError>;
 
 /// The elements of a pair so far.
-#[derive(Drop)]
 enum PairParts {
     /// None.
     Begun,
@@ -30,6 +29,32 @@ enum PairParts {
     History(Result<AnyHistory, ReadError>),
     /// Both of them.
     Both(Pair),
+}
+
+// Drops a history, or its refusal.
+fn discard(history: Result<AnyHistory, ReadError>) {
+    if let Ok(history) = history {
+        history.discard();
+    }
+}
+
+// Drops a pair, or the refusal of its history.
+fn discard_pair(pair: Pair) {
+    if let Ok((history, found)) = pair {
+        drop(found);
+        history.discard();
+    }
+}
+
+impl PairParts {
+    // Drops the elements.
+    fn discard(self) {
+        match self {
+            PairParts::Begun => {}
+            PairParts::History(history) => discard(history),
+            PairParts::Both(pair) => discard_pair(pair),
+        }
+    }
 }
 
 /// The history with what was found after it, unless it is refused.
@@ -59,12 +84,12 @@ fn next_part(
         PairParts::History(history) => match next_certificate(alloc, reader, depth) {
             Ok(read) => Ok(Some(PairParts::Both(joined(history, found_of(read))))),
             Err(error) => {
-                drop(history);
+                discard(history);
                 Err(error)
             }
         },
         PairParts::Both(pair) => {
-            drop(pair);
+            discard_pair(pair);
             pass_value(alloc, reader, depth)?;
             Ok(None)
         }
@@ -87,7 +112,7 @@ impl Gather for PairParts {
         let parts = mem::replace(self, PairParts::Begun);
         match next_part(alloc, reader, depth, parts)? {
             Some(next) => {
-                drop(mem::replace(self, next));
+                mem::replace(self, next).discard();
                 Ok(true)
             }
             None => Ok(false),
@@ -101,7 +126,11 @@ fn pair_of(parts: PairParts) -> Pair
 {
     match parts {
         PairParts::Both(pair) => pair,
-        PairParts::Begun | PairParts::History(_) => Err(ReadError::BadShape),
+        PairParts::Begun => Err(ReadError::BadShape),
+        PairParts::History(history) => {
+            discard(history);
+            Err(ReadError::BadShape)
+        }
     }
 }
 
@@ -109,7 +138,7 @@ fn pair_of(parts: PairParts) -> Pair
 fn without(pair: Pair, error: ReadError) -> Pair
     ensures { result ≡ Err error }
 {
-    drop(pair);
+    discard_pair(pair);
     Err(error)
 }
 

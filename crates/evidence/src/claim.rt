@@ -43,11 +43,14 @@ pub fn read_claim(alloc: Global, text: &[u8]) -> Result<Claim, ReadError>
     ensures refused { IfErr result (IsClaimRefused text.now) }
 {
     match read_three::<ReadHistory>(alloc, text) {
-        Ok(Some((history, violation))) => Ok(Claim {
-            history: history.0?,
-            criterion: violation.criterion,
-            pattern: violation.pattern,
-        }),
+        Ok(Some((history, violation))) => {
+            let ReadHistory(read) = history;
+            Ok(Claim {
+                history: read?,
+                criterion: violation.criterion,
+                pattern: violation.pattern,
+            })
+        }
         Ok(None) => Err(ReadError::BadShape),
         Err(TextError::NotJson) => Err(ReadError::NotJson),
         Err(TextError::Memory) => Err(ReadError::Memory),

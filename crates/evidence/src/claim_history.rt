@@ -13,7 +13,7 @@ use std::alloc::Global;
 use token_reader::{next_history, pass_value};
 
 /// What is made of the first element of a claim.
-pub(crate) trait ClaimHistory: Drop + Sized {
+pub(crate) trait ClaimHistory: Sized {
     /// It is made of this value.
     ghost made_of: { Self → Data → Type 0 };
 
@@ -24,10 +24,12 @@ pub(crate) trait ClaimHistory: Drop + Sized {
         ensures read { IfOk result (λ history. IsValue (made_of history) depth reader.old reader.new) }
         ensures shorter { OnOk result (length reader.new < length reader.old) }
         ensures refused { IfErr result (IsRefused depth reader.old) };
+
+    /// Drops it.
+    fn discard(self);
 }
 
 /// The history, or its first refusal, which is kept until the rest of the text was read.
-#[derive(Drop)]
 pub(crate) struct ReadHistory(pub(crate) Result<AnyHistory, ReadError>);
 
 impl ClaimHistory for ReadHistory {
@@ -40,10 +42,17 @@ impl ClaimHistory for ReadHistory {
     ) -> Result<ReadHistory, TextError> {
         Ok(ReadHistory(next_history(alloc, reader, depth)?))
     }
+
+    fn discard(self) {
+        let ReadHistory(read) = self;
+        if let Ok(history) = read {
+            history.discard();
+        }
+    }
 }
 
 /// A history that was passed.
-#[derive(Clone, Copy)]
+#[derive(Drop)]
 pub(crate) struct PassedHistory;
 
 impl ClaimHistory for PassedHistory {
@@ -57,4 +66,6 @@ impl ClaimHistory for PassedHistory {
         pass_value(alloc, reader, depth)?;
         Ok(PassedHistory)
     }
+
+    fn discard(self) {}
 }

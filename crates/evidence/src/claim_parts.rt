@@ -20,7 +20,6 @@ use std::mem;
 use token_reader::{Gather, gather_text, pass_value};
 
 /// What was taken of the elements of a claim.
-#[derive(Drop)]
 pub(crate) enum ClaimParts<H> {
     /// None of them.
     Nothing,
@@ -46,31 +45,32 @@ impl<H: ClaimHistory> Gather for ClaimParts<H> {
         match mem::replace(self, ClaimParts::Nothing) {
             ClaimParts::Nothing => {
                 let history = H::next(alloc, reader, depth)?;
-                drop(mem::replace(self, ClaimParts::History(history)));
+                mem::replace(self, ClaimParts::History(history)).discard();
                 Ok(true)
             }
             ClaimParts::History(history) => match next_word(alloc, reader, depth) {
                 Ok(criterion) => {
-                    drop(mem::replace(self, ClaimParts::Named(history, criterion)));
+                    mem::replace(self, ClaimParts::Named(history, criterion)).discard();
                     Ok(true)
                 }
                 Err(error) => {
-                    drop(history);
+                    history.discard();
                     Err(error)
                 }
             },
             ClaimParts::Named(history, criterion) => match next_pattern(alloc, reader, depth) {
                 Ok(pattern) => {
-                    drop(mem::replace(self, ClaimParts::Whole(history, criterion, pattern)));
+                    mem::replace(self, ClaimParts::Whole(history, criterion, pattern)).discard();
                     Ok(true)
                 }
                 Err(error) => {
-                    drop(history);
+                    history.discard();
                     Err(error)
                 }
             },
             ClaimParts::Whole(history, _, pattern) => {
-                drop((history, pattern));
+                drop(pattern);
+                history.discard();
                 pass_value(alloc, reader, depth)?;
                 Ok(false)
             }
@@ -79,6 +79,18 @@ impl<H: ClaimHistory> Gather for ClaimParts<H> {
 }
 
 impl<H: ClaimHistory> ClaimParts<H> {
+    /// Drops what was taken.
+    fn discard(self) {
+        match self {
+            ClaimParts::Nothing => {}
+            ClaimParts::History(history) | ClaimParts::Named(history, _) => history.discard(),
+            ClaimParts::Whole(history, _, pattern) => {
+                drop(pattern);
+                history.discard();
+            }
+        }
+    }
+
     /// What was made of the three elements, where all of them were taken.
     fn whole(self) -> Option<(H, Violation)>
         ensures { (ds : List Data) → IsClaimTaken H.made_of self ds → MatchOption result (IsNotThree ds)
@@ -89,8 +101,20 @@ impl<H: ClaimHistory> ClaimParts<H> {
                 history,
                 Violation { criterion, pattern },
             )),
-            ClaimParts::Nothing | ClaimParts::History(_) | ClaimParts::Named(_, _) => None,
+            ClaimParts::Nothing => None,
+            ClaimParts::History(history) | ClaimParts::Named(history, _) => {
+                history.discard();
+                None
+            }
         }
+    }
+}
+
+// Drops what was made.
+fn discard<H: ClaimHistory>(whole: Option<(H, Violation)>) {
+    if let Some((history, violation)) = whole {
+        drop(violation);
+        history.discard();
     }
 }
 
@@ -112,11 +136,11 @@ pub(crate) fn read_three<H: ClaimHistory>(
     match gathered {
         Ok(true) => Ok(whole),
         Ok(false) => {
-            drop(whole);
+            discard(whole);
             Ok(None)
         }
         Err(error) => {
-            drop(whole);
+            discard(whole);
             Err(error)
         }
     }

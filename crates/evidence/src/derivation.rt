@@ -1,21 +1,17 @@
 //! Lines of derivations: lists of `"co"` and two paths, of `"tr"` and two numbers, or of `"rf"`, a number and an operation.
 
-ghost use Rattle.std.specs.Prelude.{◌≡◌, ◌≢◌, [], List};
-ghost use Rattle.bad_patterns.specs.declared.derivation.Line.{Line as AnyLine};
-ghost use Rattle.evidence.specs.Steps.Taken.{line_begun, line_parts, line_taken};
 ghost use Rattle.evidence.specs.Steps.PartWords.{line_word};
 
-use crate::formed::{Formed, Parts, next_whole};
+use crate::formed::{Formed, next_rest, next_whole};
 use crate::items::Items;
+use crate::opening::{Opening, next_opened};
 use crate::pair::Pair;
-use crate::word::{Word, next_word};
+use crate::word::Word;
 use bad_patterns::{Derivation, Line, Path};
 use bounded_json::TextError;
 use history::OpId;
 use json::Reader;
 use std::alloc::Global;
-use std::mem;
-use token_reader::Gather;
 
 /// The words of lines.
 #[derive(Clone, Copy)]
@@ -44,84 +40,34 @@ impl Word for LineWord {
     }
 }
 
-/// What was taken of the parts of a line.
-#[derive(Drop)]
-pub(crate) enum LineParts {
-    /// None of them.
-    Nothing,
-    /// The word of a line of the causal order, and of its paths.
-    Co(Pair<Path, Path>),
-    /// The word of a line by transitivity, and of the numbers of lines.
-    Tr(Pair<u64, u64>),
-    /// The word of a line by what a read reads from, and of the number of a line and the read.
-    Rf(Pair<u64, OpId>),
-}
+impl Opening for LineWord {
+    ghost use Rattle.evidence.specs.Steps.Taken.{line_opening, line_shown};
 
-impl LineParts {
-    /// The word alone.
-    fn begun(word: LineWord) -> LineParts
-        ensures { result ≡ line_begun word }
-    {
-        match word {
-            LineWord::Co => LineParts::Co(Pair::Nothing),
-            LineWord::Tr => LineParts::Tr(Pair::Nothing),
-            LineWord::Rf => LineParts::Rf(Pair::Nothing),
-        }
-    }
-}
+    type Whole = Line;
 
-impl Gather for LineParts {
-    ghost is_of = { λ parts ds. ds ≡ line_taken parts };
+    ghost word_of = { line_opening };
 
-    ghost refuses = { λ ds. (line : AnyLine) → ds ≢ line_parts line };
+    ghost shown = { line_shown };
 
-    fn take_next(
-        &mut self,
+    fn rest(
+        self,
         alloc: Global,
         reader: &mut Reader<'_>,
         depth: usize,
-    ) -> Result<bool, TextError> {
+    ) -> Result<Option<Line>, TextError> {
         match self {
-            LineParts::Nothing => {
-                let Some(word) = next_word(alloc, reader, depth)? else {
-                    return Ok(false);
-                };
-                drop(mem::replace(self, LineParts::begun(word)));
-                Ok(true)
-            }
-            LineParts::Co(pair) => pair.take_next(alloc, reader, depth),
-            LineParts::Tr(pair) => pair.take_next(alloc, reader, depth),
-            LineParts::Rf(pair) => pair.take_next(alloc, reader, depth),
-        }
-    }
-}
-
-impl Parts for LineParts {
-    type Whole = Line;
-
-    ghost parts = { line_parts };
-
-    ghost refuses_parts = { λ ds line none. none line };
-
-    fn none(_alloc: Global) -> LineParts {
-        LineParts::Nothing
-    }
-
-    fn whole(self) -> Option<Line> {
-        match self {
-            LineParts::Nothing => None,
-            LineParts::Co(pair) => {
-                let (above, below) = pair.whole()?;
-                Some(Line::Co(above, below))
-            }
-            LineParts::Tr(pair) => {
-                let (i, j) = pair.whole()?;
-                Some(Line::Tr(i, j))
-            }
-            LineParts::Rf(pair) => {
-                let (i, read) = pair.whole()?;
-                Some(Line::Rf(i, read))
-            }
+            LineWord::Co => match next_rest::<Pair<Path, Path>>(alloc, reader, depth)? {
+                Some((above, below)) => Ok(Some(Line::Co(above, below))),
+                None => Ok(None),
+            },
+            LineWord::Tr => match next_rest::<Pair<u64, u64>>(alloc, reader, depth)? {
+                Some((i, j)) => Ok(Some(Line::Tr(i, j))),
+                None => Ok(None),
+            },
+            LineWord::Rf => match next_rest::<Pair<u64, OpId>>(alloc, reader, depth)? {
+                Some((i, read)) => Ok(Some(Line::Rf(i, read))),
+                None => Ok(None),
+            },
         }
     }
 }
@@ -136,7 +82,7 @@ impl Formed for Line {
         reader: &mut Reader<'_>,
         depth: usize,
     ) -> Result<Option<Line>, TextError> {
-        next_whole::<LineParts>(alloc, reader, depth)
+        next_opened::<LineWord>(alloc, reader, depth)
     }
 }
 

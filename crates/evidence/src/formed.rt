@@ -1,16 +1,16 @@
 //! Forms that are read token by token: that of one value, and that of the elements of a list.
 
-ghost use Rattle.std.specs.Prelude.{◌≡◌, ◌≢◌, ◌<◌, List, [], length, IfOk, IfErr, OnOk};
+ghost use Rattle.std.specs.Prelude.{◌≡◌, ◌≢◌, ◌<◌, ◌≤◌, List, [], length, IfOk, IfErr, OnOk};
 ghost use Rattle.serde_json.specs.Data.{Data};
-ghost use Rattle.bounded_json.specs.Steps.Reading.{IsRefused};
+ghost use Rattle.bounded_json.specs.Steps.Reading.{AreRefused, IsRefused};
 ghost use Rattle.operations.specs.Json.{list};
 ghost use Rattle.operations.specs.Reads.{IsRead};
-ghost use Rattle.token_reader.specs.Tokens.{IsValue};
+ghost use Rattle.token_reader.specs.Tokens.{IsRest, IsValue};
 
 use bounded_json::TextError;
 use json::Reader;
 use std::alloc::Global;
-use token_reader::{Gather, next_list};
+use token_reader::{Gather, gather_rest, next_list};
 
 /// A type whose values have a form as JSON values.
 pub(crate) trait Formed: Drop + Sized {
@@ -61,6 +61,27 @@ pub(crate) fn next_whole<P: Parts>(
 {
     let mut parts = P::none(alloc);
     if next_list(alloc, reader, depth, &mut parts)? {
+        Ok(parts.whole())
+    } else {
+        Ok(None)
+    }
+}
+
+/// The whole whose parts the elements of the rest of a list are. It passes the rest in any case.
+///
+/// `NotJson` exactly where no rest of a list comes next, and `Memory` only where an allocation was refused. O(n) for n bytes of the rest,
+/// beside what `take_next` takes.
+pub(crate) fn next_rest<P: Parts>(
+    alloc: Global,
+    reader: &mut Reader<'_>,
+    depth: usize,
+) -> Result<Option<P::Whole>, TextError>
+    ensures read { IfOk result (λ whole. IsRest (λ ds. IsRead P.parts ds whole) depth reader.old reader.new) }
+    ensures shorter { OnOk result (length reader.new ≤ length reader.old) }
+    ensures refused { IfErr result (AreRefused depth reader.old) }
+{
+    let mut parts = P::none(alloc);
+    if gather_rest(alloc, reader, depth, &mut parts)? {
         Ok(parts.whole())
     } else {
         Ok(None)

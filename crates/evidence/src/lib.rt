@@ -26,6 +26,7 @@ mod list_number;
 mod lists;
 mod numbers;
 mod only;
+mod opening;
 mod operation;
 mod pair;
 mod parts;

@@ -1,22 +1,21 @@
 //! Reading the parts of a certificate: its word, its vectors, and what comes after them.
 
-ghost use Rattle.std.specs.Prelude.{◌≡◌, ◌<◌, List, length, IfOk, IfErr, OnOk};
+ghost use Rattle.std.specs.Prelude.{◌<◌, List, length, IfOk, IfErr, OnOk};
 ghost use Rattle.serde_json.specs.Data.{Data};
 ghost use Rattle.bounded_json.specs.Steps.Reading.{IsRefused};
-ghost use Rattle.operations.specs.Reads.{IsRead};
-ghost use Rattle.evidence.specs.Steps.Parts.{ArePartsOf, IsNextPart, word_form};
+ghost use Rattle.evidence.specs.Steps.Parts.{ArePartsOf, IsNextPart};
 ghost use Rattle.token_reader.specs.Tokens.{IsValue};
 
 use crate::explained::{certificate_of, next_explained};
 use crate::lists::next_lists;
+use crate::word::next_word;
 use bounded_json::TextError;
 use causal_order::Vectors;
 use cert_check::{Certificate, Criterion};
 use json::Reader;
-use operations::HistoryPlace;
 use std::alloc::Global;
 use std::mem;
-use token_reader::{Gather, next_value, pass_value};
+use token_reader::{Gather, pass_value};
 
 /// The parts of a certificate so far.
 #[derive(Drop)]
@@ -29,23 +28,6 @@ pub(crate) enum Parts {
     Vectors(Criterion, Vectors),
     /// All of them.
     All(Certificate),
-}
-
-/// The criterion whose word comes next, or none where no such word comes. It passes the value.
-fn next_criterion(
-    alloc: Global,
-    reader: &mut Reader<'_>,
-    depth: usize,
-) -> Result<Option<Criterion>, TextError>
-    ensures read { IfOk result (λ read. IsValue (λ d. IsRead word_form d read) depth reader.old reader.new) }
-    ensures shorter { OnOk result (length reader.new < length reader.old) }
-    ensures refused { IfErr result (IsRefused depth reader.old) }
-{
-    let value = next_value(alloc, reader, HistoryPlace::Scalar, depth)?;
-    match value.as_str() {
-        Some(word) => Ok(Criterion::named(word)),
-        None => Ok(None),
-    }
 }
 
 /// The parts with the one that comes next, or none where no certificate goes on so. It passes the value.
@@ -61,7 +43,7 @@ fn next_part(
     ensures refused { IfErr result (IsRefused depth reader.old) }
 {
     match parts {
-        Parts::Begun => match next_criterion(alloc, reader, depth)? {
+        Parts::Begun => match next_word(alloc, reader, depth)? {
             Some(criterion) => Ok(Some(Parts::Named(criterion))),
             None => Ok(None),
         },

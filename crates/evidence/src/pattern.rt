@@ -1,123 +1,68 @@
 //! Patterns: lists of the name of a kind and the one thing or two that show it.
 
-ghost use Rattle.std.specs.Prelude.{◌≡◌, ◌≢◌, ◌<◌, [], List, length, IfOk, IfErr, OnOk};
-ghost use Rattle.bad_patterns.specs.declared.pattern.Pattern.{Pattern as AnyPattern};
+ghost use Rattle.std.specs.Prelude.{◌<◌, length, IfOk, IfErr, OnOk};
 ghost use Rattle.evidence.specs.PatternForm.{form_of};
 ghost use Rattle.bounded_json.specs.Steps.Reading.{IsRefused};
 ghost use Rattle.operations.specs.Reads.{IsRead};
-ghost use Rattle.evidence.specs.Steps.PatternTaken.{pattern_begun, pattern_parts, pattern_taken};
 ghost use Rattle.token_reader.specs.Tokens.{IsValue};
 
-use crate::formed::{Parts, next_whole};
+use crate::formed::next_rest;
 use crate::only::Only;
+use crate::opening::{Opening, next_opened};
 use crate::pair::Pair;
-use crate::word::next_word;
 use bad_patterns::{Derivation, Kind, Links, Path, Pattern};
 use bounded_json::TextError;
 use history::OpId;
 use json::Reader;
 use std::alloc::Global;
-use std::mem;
-use token_reader::Gather;
 
-/// What was taken of the parts of a pattern. [`next_pattern`] takes the parts one after the other, and makes the pattern of them.
-#[derive(Drop)]
-pub(crate) enum PatternParts {
-    /// None of them.
-    Nothing,
-    /// The name of this kind, and what was taken of the path.
-    CyclicCO(Only<Path>),
-    /// The name of this kind, and what was taken of the read.
-    ThinAirRead(Only<OpId>),
-    /// The name of this kind, and what was taken of the path.
-    WriteCOInitRead(Only<Path>),
-    /// The name of this kind, and what was taken of the two paths.
-    WriteCORead(Pair<Path, Path>),
-    /// The name of this kind, and what was taken of the operation and its derivation.
-    WriteHBInitRead(Pair<OpId, Derivation>),
-    /// The name of this kind, and what was taken of the operation and its derivation.
-    CyclicHB(Pair<OpId, Derivation>),
-    /// The name of this kind, and what was taken of the links.
-    CyclicCF(Only<Links>),
-}
+impl Opening for Kind {
+    ghost use Rattle.bad_patterns.specs.Patterns.{kind_of};
+    ghost use Rattle.evidence.specs.Steps.PatternTaken.{shown_parts};
 
-impl PatternParts {
-    /// The name of the kind alone.
-    fn begun(kind: Kind) -> PatternParts
-        ensures { result ≡ pattern_begun kind }
-    {
-        match kind {
-            Kind::CyclicCO => PatternParts::CyclicCO(Only::Nothing),
-            Kind::ThinAirRead => PatternParts::ThinAirRead(Only::Nothing),
-            Kind::WriteCOInitRead => PatternParts::WriteCOInitRead(Only::Nothing),
-            Kind::WriteCORead => PatternParts::WriteCORead(Pair::Nothing),
-            Kind::WriteHBInitRead => PatternParts::WriteHBInitRead(Pair::Nothing),
-            Kind::CyclicHB => PatternParts::CyclicHB(Pair::Nothing),
-            Kind::CyclicCF => PatternParts::CyclicCF(Only::Nothing),
-        }
-    }
-}
+    type Whole = Pattern;
 
-impl Gather for PatternParts {
-    ghost is_of = { λ parts ds. ds ≡ pattern_taken parts };
+    ghost word_of = { kind_of };
 
-    ghost refuses = { λ ds. (pattern : AnyPattern) → ds ≢ pattern_parts pattern };
+    ghost shown = { shown_parts };
 
-    fn take_next(
-        &mut self,
+    fn rest(
+        self,
         alloc: Global,
         reader: &mut Reader<'_>,
         depth: usize,
-    ) -> Result<bool, TextError> {
+    ) -> Result<Option<Pattern>, TextError> {
         match self {
-            PatternParts::Nothing => {
-                let Some(kind) = next_word(alloc, reader, depth)? else {
-                    return Ok(false);
-                };
-                drop(mem::replace(self, PatternParts::begun(kind)));
-                Ok(true)
-            }
-            PatternParts::CyclicCO(only) => only.take_next(alloc, reader, depth),
-            PatternParts::ThinAirRead(only) => only.take_next(alloc, reader, depth),
-            PatternParts::WriteCOInitRead(only) => only.take_next(alloc, reader, depth),
-            PatternParts::WriteCORead(pair) => pair.take_next(alloc, reader, depth),
-            PatternParts::WriteHBInitRead(pair) => pair.take_next(alloc, reader, depth),
-            PatternParts::CyclicHB(pair) => pair.take_next(alloc, reader, depth),
-            PatternParts::CyclicCF(only) => only.take_next(alloc, reader, depth),
-        }
-    }
-}
-
-impl Parts for PatternParts {
-    type Whole = Pattern;
-
-    ghost parts = { pattern_parts };
-
-    ghost refuses_parts = { λ ds pattern none. none pattern };
-
-    fn none(_alloc: Global) -> PatternParts {
-        PatternParts::Nothing
-    }
-
-    fn whole(self) -> Option<Pattern> {
-        match self {
-            PatternParts::Nothing => None,
-            PatternParts::CyclicCO(only) => Some(Pattern::CyclicCO(only.whole()?)),
-            PatternParts::ThinAirRead(only) => Some(Pattern::ThinAirRead(only.whole()?)),
-            PatternParts::WriteCOInitRead(only) => Some(Pattern::WriteCOInitRead(only.whole()?)),
-            PatternParts::WriteCORead(pair) => {
-                let (above, below) = pair.whole()?;
-                Some(Pattern::WriteCORead(above, below))
-            }
-            PatternParts::WriteHBInitRead(pair) => {
-                let (op, lines) = pair.whole()?;
-                Some(Pattern::WriteHBInitRead(op, lines))
-            }
-            PatternParts::CyclicHB(pair) => {
-                let (op, lines) = pair.whole()?;
-                Some(Pattern::CyclicHB(op, lines))
-            }
-            PatternParts::CyclicCF(only) => Some(Pattern::CyclicCF(only.whole()?)),
+            Kind::CyclicCO => match next_rest::<Only<Path>>(alloc, reader, depth)? {
+                Some(path) => Ok(Some(Pattern::CyclicCO(path))),
+                None => Ok(None),
+            },
+            Kind::ThinAirRead => match next_rest::<Only<OpId>>(alloc, reader, depth)? {
+                Some(read) => Ok(Some(Pattern::ThinAirRead(read))),
+                None => Ok(None),
+            },
+            Kind::WriteCOInitRead => match next_rest::<Only<Path>>(alloc, reader, depth)? {
+                Some(path) => Ok(Some(Pattern::WriteCOInitRead(path))),
+                None => Ok(None),
+            },
+            Kind::WriteCORead => match next_rest::<Pair<Path, Path>>(alloc, reader, depth)? {
+                Some((above, below)) => Ok(Some(Pattern::WriteCORead(above, below))),
+                None => Ok(None),
+            },
+            Kind::WriteHBInitRead => match next_rest::<Pair<OpId, Derivation>>(
+                alloc, reader, depth,
+            )? {
+                Some((op, lines)) => Ok(Some(Pattern::WriteHBInitRead(op, lines))),
+                None => Ok(None),
+            },
+            Kind::CyclicHB => match next_rest::<Pair<OpId, Derivation>>(alloc, reader, depth)? {
+                Some((op, lines)) => Ok(Some(Pattern::CyclicHB(op, lines))),
+                None => Ok(None),
+            },
+            Kind::CyclicCF => match next_rest::<Only<Links>>(alloc, reader, depth)? {
+                Some(links) => Ok(Some(Pattern::CyclicCF(links))),
+                None => Ok(None),
+            },
         }
     }
 }
@@ -143,5 +88,5 @@ pub fn next_pattern(
     ensures shorter { OnOk result (length reader.new < length reader.old) }
     ensures refused { IfErr result (IsRefused depth reader.old) }
 {
-    next_whole::<PatternParts>(alloc, reader, depth)
+    next_opened::<Kind>(alloc, reader, depth)
 }

@@ -4,7 +4,7 @@ use bad_patterns::Pattern;
 use cert_check::Criterion;
 
 /// A criterion that a history does not meet, and a pattern that shows it.
-#[derive(Debug, Drop)]
+#[derive(Drop)]
 pub struct Violation {
     /// The criterion, or none where the second element of the claim names none.
     pub criterion: Option<Criterion>,

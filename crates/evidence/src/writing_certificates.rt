@@ -5,7 +5,7 @@ ghost use Rattle.serde_json.specs.View.{view};
 ghost use Rattle.operations.specs.Reads.{list_form};
 ghost use Rattle.cert_check.specs.CertificateForm.{form_of};
 
-use crate::written::{Written, list_value, worded_two};
+use crate::written::{Written, list_value, worded_both};
 use causal_order::ByOperation;
 use cert_check::Certificate;
 use history::OpId;
@@ -21,13 +21,21 @@ pub fn certificate_value(alloc: Global, certificate: &Certificate) -> Result<Val
     let name = certificate.criterion().name();
     match certificate {
         Certificate::Cc(vectors, schedules) | Certificate::Cm(vectors, schedules) => {
-            let vectors = lists_value(alloc, vectors)?;
-            worded_two(alloc, name, vectors, lists_value(alloc, schedules)?)
+            worded_both(
+                alloc,
+                name,
+                lists_value(alloc, vectors),
+                lists_value(alloc, schedules),
+            )
         }
         Certificate::Ccv(vectors, arbitration) => {
-            let vectors = lists_value(alloc, vectors)?;
-            let list = list_value(alloc, arbitration.sessions())?;
-            worded_two(alloc, name, vectors, list)
+            let vectors = lists_value(alloc, vectors);
+            worded_both(
+                alloc,
+                name,
+                vectors,
+                list_value(alloc, arbitration.sessions()),
+            )
         }
     }
 }

@@ -4,7 +4,7 @@ ghost use Rattle.std.specs.Prelude.{◌≡◌, IfOk};
 ghost use Rattle.serde_json.specs.View.{view};
 ghost use Rattle.evidence.specs.PatternForm.{form_of, lines_form, links_form, op_form, path_form};
 
-use crate::written::{Written, list_value, worded_one, worded_two};
+use crate::written::{Written, list_value, worded_both, worded_one, worded_two};
 use bad_patterns::{Derivation, Line, Link, Links, Path, Pattern};
 use history::OpId;
 use serde_json::Value;
@@ -23,12 +23,15 @@ pub fn pattern_value(alloc: Global, pattern: &Pattern) -> Result<Value, AllocErr
         }
         Pattern::ThinAirRead(read) => worded_one(alloc, kind, op_value(alloc, *read)?),
         Pattern::WriteCORead(first, second) => {
-            let first = path_value(alloc, first)?;
-            worded_two(alloc, kind, first, path_value(alloc, second)?)
+            worded_both(
+                alloc,
+                kind,
+                path_value(alloc, first),
+                path_value(alloc, second),
+            )
         }
         Pattern::WriteHBInitRead(op, lines) | Pattern::CyclicHB(op, lines) => {
-            let op = op_value(alloc, *op)?;
-            worded_two(alloc, kind, op, lines_value(alloc, lines)?)
+            worded_both(alloc, kind, op_value(alloc, *op), lines_value(alloc, lines))
         }
         Pattern::CyclicCF(links) => worded_one(alloc, kind, links_value(alloc, links)?),
     }
@@ -40,10 +43,8 @@ pub fn pattern_value(alloc: Global, pattern: &Pattern) -> Result<Value, AllocErr
 pub fn op_value(alloc: Global, op: OpId) -> Result<Value, AllocError>
     ensures form { IfOk result (λ value. view value ≡ op_form op) }
 {
-    let mut values = Vec::new(alloc);
-    values.push(Value::from(op.session))?;
-    values.push(Value::from(op.index))?;
-    Ok(Value::Array(values))
+    let session = Value::from(op.session);
+    Ok(Value::Array(vec![in alloc; session, Value::from(op.index)]?))
 }
 
 // The form of a path.
@@ -84,13 +85,9 @@ impl Written for Link {
 
     fn value(&self, alloc: Global) -> Result<Value, AllocError> {
         match self {
-            Link::Co(a, b) => {
-                let a = op_value(alloc, *a)?;
-                worded_two(alloc, "co", a, op_value(alloc, *b)?)
-            }
+            Link::Co(a, b) => worded_both(alloc, "co", op_value(alloc, *a), op_value(alloc, *b)),
             Link::Cf(path, b) => {
-                let path = path_value(alloc, path)?;
-                worded_two(alloc, "cf", path, op_value(alloc, *b)?)
+                worded_both(alloc, "cf", path_value(alloc, path), op_value(alloc, *b))
             }
         }
     }
@@ -104,14 +101,23 @@ impl Written for Line {
     fn value(&self, alloc: Global) -> Result<Value, AllocError> {
         match self {
             Line::Co(first, second) => {
-                let first = path_value(alloc, first)?;
-                worded_two(alloc, "co", first, path_value(alloc, second)?)
+                worded_both(
+                    alloc,
+                    "co",
+                    path_value(alloc, first),
+                    path_value(alloc, second),
+                )
             }
             Line::Tr(first, second) => {
                 worded_two(alloc, "tr", Value::from(*first), Value::from(*second))
             }
             Line::Rf(number, read) => {
-                worded_two(alloc, "rf", Value::from(*number), op_value(alloc, *read)?)
+                worded_both(
+                    alloc,
+                    "rf",
+                    Ok(Value::from(*number)),
+                    op_value(alloc, *read),
+                )
             }
         }
     }

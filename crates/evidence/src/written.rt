@@ -60,3 +60,28 @@ pub fn worded_two(
         }
     }
 }
+
+/// The list of a word and two things, where both could be made. Fails for want of memory alone.
+pub(crate) fn worded_both(
+    alloc: Global,
+    word: &str,
+    first: Result<Value, AllocError>,
+    second: Result<Value, AllocError>,
+) -> Result<Value, AllocError>
+    ensures { (a b : Data) → IfOk first (λ value. view value ≡ a) → IfOk second (λ value. view value ≡ b)
+        → IfOk result (λ value. view value ≡ worded word.now (a ∷ b ∷ [])) }
+{
+    match first {
+        Ok(first) => match second {
+            Ok(second) => worded_two(alloc, word, first, second),
+            Err(no_memory) => {
+                drop(first);
+                Err(no_memory)
+            }
+        },
+        Err(no_memory) => {
+            drop(second);
+            Err(no_memory)
+        }
+    }
+}

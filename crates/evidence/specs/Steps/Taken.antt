@@ -1,5 +1,5 @@
 -- The elements of a list that were taken towards a link or a line, and those that make one.
-use Rattle.std.specs.Prelude.{List, [], ◌∷◌, codes}
+use Rattle.std.specs.Prelude.{ℕ, List, [], ◌∷◌}
 use Rattle.serde_json.specs.Data.{Data, string}
 use Rattle.operations.specs.Reads.{number_form}
 use Rattle.bad_patterns.specs.declared.derivation.Line.{Line}
@@ -7,18 +7,15 @@ use Rattle.bad_patterns.specs.declared.derivation.Line.TheVariants as lines
 use Rattle.bad_patterns.specs.declared.link.Link.{Link}
 use Rattle.bad_patterns.specs.declared.link.Link.TheVariants as links
 use Rattle.evidence.specs.PatternForm.{op_form, path_form}
-use Rattle.evidence.specs.declared.derivation.LineParts.{LineParts}
-use Rattle.evidence.specs.declared.derivation.LineParts.TheVariants as line
 use Rattle.evidence.specs.declared.derivation.LineWord.{LineWord}
 use Rattle.evidence.specs.declared.derivation.LineWord.TheVariants as line_words
-use Rattle.evidence.specs.declared.link.LinkParts.{LinkParts}
-use Rattle.evidence.specs.declared.link.LinkParts.TheVariants as link
 use Rattle.evidence.specs.declared.link.LinkWord.{LinkWord}
 use Rattle.evidence.specs.declared.link.LinkWord.TheVariants as link_words
 use Rattle.evidence.specs.declared.only.Only.{Only}
 use Rattle.evidence.specs.declared.only.Only.TheVariants as only
 use Rattle.evidence.specs.declared.pair.Pair.{Pair}
 use Rattle.evidence.specs.declared.pair.Pair.TheVariants as pair
+use Rattle.evidence.specs.Steps.PartWords.{line_word, link_word}
 
 -- ---- one item, and two
 
@@ -38,35 +35,36 @@ module _ {A B : Type 0} (first : A → Data) (second : B → Data) where
   pair_taken (pair.First a) = first a ∷ []
   pair_taken (pair.Both a b) = first a ∷ second b ∷ []
 
+-- ---- lists that begin with a word
+
+-- the word, and what comes after it
+abbrev pub opened_parts : {W X : Type 0} → (W → List ℕ) → (X → W) → (X → List Data) → X → List Data
+opened_parts name word_of shown x = string (name (word_of x)) ∷ shown x
+
 -- ---- links
 
+abbrev pub link_opening : Link → LinkWord
+link_opening (links.Co a b) = link_words.Co
+link_opening (links.Cf path b) = link_words.Cf
+
+abbrev pub link_shown : Link → List Data
+link_shown (links.Co a b) = op_form a ∷ op_form b ∷ []
+link_shown (links.Cf path b) = path_form path ∷ op_form b ∷ []
+
 abbrev pub link_parts : Link → List Data
-link_parts (links.Co a b) = string (codes "co") ∷ op_form a ∷ op_form b ∷ []
-link_parts (links.Cf path b) = string (codes "cf") ∷ path_form path ∷ op_form b ∷ []
-
-abbrev pub link_begun : LinkWord → LinkParts
-link_begun link_words.Co = link.Co pair.Nothing
-link_begun link_words.Cf = link.Cf pair.Nothing
-
-abbrev pub link_taken : LinkParts → List Data
-link_taken link.Nothing = []
-link_taken (link.Co p) = string (codes "co") ∷ pair_taken op_form op_form p
-link_taken (link.Cf p) = string (codes "cf") ∷ pair_taken path_form op_form p
+link_parts = opened_parts link_word link_opening link_shown
 
 -- ---- lines
 
+abbrev pub line_opening : Line → LineWord
+line_opening (lines.Co above below) = line_words.Co
+line_opening (lines.Tr i j) = line_words.Tr
+line_opening (lines.Rf i r) = line_words.Rf
+
+abbrev pub line_shown : Line → List Data
+line_shown (lines.Co above below) = path_form above ∷ path_form below ∷ []
+line_shown (lines.Tr i j) = number_form i ∷ number_form j ∷ []
+line_shown (lines.Rf i r) = number_form i ∷ op_form r ∷ []
+
 abbrev pub line_parts : Line → List Data
-line_parts (lines.Co above below) = string (codes "co") ∷ path_form above ∷ path_form below ∷ []
-line_parts (lines.Tr i j) = string (codes "tr") ∷ number_form i ∷ number_form j ∷ []
-line_parts (lines.Rf i r) = string (codes "rf") ∷ number_form i ∷ op_form r ∷ []
-
-abbrev pub line_begun : LineWord → LineParts
-line_begun line_words.Co = line.Co pair.Nothing
-line_begun line_words.Tr = line.Tr pair.Nothing
-line_begun line_words.Rf = line.Rf pair.Nothing
-
-abbrev pub line_taken : LineParts → List Data
-line_taken line.Nothing = []
-line_taken (line.Co p) = string (codes "co") ∷ pair_taken path_form path_form p
-line_taken (line.Tr p) = string (codes "tr") ∷ pair_taken number_form number_form p
-line_taken (line.Rf p) = string (codes "rf") ∷ pair_taken number_form op_form p
+line_parts = opened_parts line_word line_opening line_shown

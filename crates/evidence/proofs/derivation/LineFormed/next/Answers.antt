@@ -7,4 +7,4 @@ use Rattle.evidence.proofs.derivation.LineFormed.next.Goals as goal
 
 pub returns-clause-read : goal.returns-clause-read
 returns-clause-read c =
-    value_read_as (λ line. list (line_parts line)) line_form line_list c.next_whole.result c.args.depth c.args.reader.now c.next_whole.new.reader c.next_whole.ensures.read
+    value_read_as (λ line. list (line_parts line)) line_form line_list c.next_opened.result c.args.depth c.args.reader.now c.next_opened.new.reader c.next_opened.ensures.read
