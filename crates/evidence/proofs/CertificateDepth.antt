@@ -1,14 +1,13 @@
 -- The form of a certificate nests little, and has no float: what is written of it is read back.
-use Rattle.std.proofs.Common.{◌≡◌, ◌≤◌, ℕ, false, List, map, refl, arith}
+use Rattle.std.proofs.Common.{◌≡◌, ◌≤◌, ℕ, false, List, refl, arith}
 use Rattle.serde_json.specs.Data.{depth}
-use Rattle.serde_json.specs.View.{items_of}
-use Rattle.serde_json.specs.Written.{has_float, items_have_float}
+use Rattle.serde_json.specs.Written.{has_float}
 use Rattle.operations.specs.Reads.{list_form, number_form}
 use Rattle.causal_order.specs.Vectors.{ByOperation}
 use Rattle.cert_check.specs.declared.certificate.Certificate.{Certificate}
 use Rattle.cert_check.specs.declared.certificate.Certificate.TheVariants.{Cc, Cm, Ccv}
 use Rattle.cert_check.specs.CertificateForm.{form_of, lists_form}
-use Rattle.evidence.proofs.PatternDepth.{deepest, deepest-map, no_float-map}
+use Rattle.evidence.proofs.PatternDepth.{deepest-map, no_float-map}
 
 number_depth : (n : ℕ) → depth (number_form n) ≤ 0
 number_depth n = omega arith
