@@ -3,6 +3,7 @@ pub mod CutScripts
 pub mod KeptReplays
 pub mod KeptRuns
 pub mod PassedScripts
+pub mod ReplyTexts
 pub mod ScriptForms
 pub mod ScriptTexts
 pub mod ScriptsRead

@@ -83,8 +83,13 @@ module _ {C R : Type 0} (call_form : C → Data) (return_form : R → Data) (is_
         → ArePassed call_form return_form is_call (Steps k taken) (ds ++ d ∷ [])
     steps_passed so_far are = third so_far.0 (elements d) refl so_far.1 are
 
-    pub rest_passed : ArePassed call_form return_form is_call (Steps k taken) ds → ArePassed call_form return_form is_call (Steps k taken) (ds ++ d ∷ [])
+    rest_passed : ArePassed call_form return_form is_call (Steps k taken) ds → ArePassed call_form return_form is_call (Steps k taken) (ds ++ d ∷ [])
     rest_passed so_far = (so_far.0, so_far.1, so_far.2 ++ d ∷ [], ap (λ (es : List Data). es ++ d ∷ []) so_far.3, so_far.4)
+
+    pub still_passed : (passed : Passed C R) → passed ≡ Steps k taken → ArePassed call_form return_form is_call passed ds → ArePassed call_form return_form is_call passed (ds ++ d ∷ [])
+    still_passed passed is so_far =
+        subst (λ (p : Passed C R). ArePassed call_form return_form is_call p (ds ++ d ∷ [])) (sym is)
+        (rest_passed (subst (λ (p : Passed C R). ArePassed call_form return_form is_call p ds) is so_far))
 
   -- ---- the whole text
 

@@ -2,17 +2,30 @@
 use Rattle.std.proofs.Common.{◌≡◌, ◌≢◌, ℕ, List, Option, Some, None, ap, sym, ◌∙◌}
 use Rattle.serde_json.specs.Data.{Data}
 use Rattle.script.specs.declared.any_script.AnyScript.{AnyScript}
-use Rattle.script.specs.declared.script_error.ScriptError.TheVariants.{BadInitial}
+use Rattle.script.specs.declared.script_error.ScriptError.{ScriptError}
+use Rattle.script.specs.declared.script_error.ScriptError.TheVariants.{NotJson, BadShape, UnknownObject, BadLimits, BadStep, TooManySteps, BadInitial, Memory}
 use Rattle.script.specs.declared.written_step.WrittenStep.{WrittenStep}
 use Rattle.script.specs.AnyScriptForm.{parts_of, IsAnyScript}
 use Rattle.script.specs.Kept.{AreWholeStarts}
 use Rattle.script.specs.ScriptForm.{Parts, IsNumberOfSessions, IsRefusalOf, IsScript, ScriptValue, script_parts}
 use Rattle.script.specs.Shortened.{any_kept, kept_of}
 use Rattle.script.specs.Steps.ScriptsRead.{IsAnyKept, IsKeptScript, rest_seen}
-use Rattle.script.specs.Steps.StepsTaken.{AreSteps}
+use Rattle.script.specs.Steps.StepsTaken.{AreSteps, IsStepsRefusal}
 use Rattle.script.proofs.CutScripts.{start_alone, start_kept}
 
 module _ {S C R : Type 0} (call_form : C → Data) (return_form : R → Data) (is_call : C → Type 0) (start_form : S → List Data) (is_start has_form : S → Type 0) where
+  -- why steps are refused is why the script is
+  pub steps_refused : (k : ℕ) (steps rest : List Data) (e : ScriptError) → IsStepsRefusal call_form return_form is_call k steps e
+      → IsRefusalOf call_form return_form is_call k start_form is_start has_form steps rest e
+  steps_refused k steps rest NotJson refused = refused
+  steps_refused k steps rest BadShape refused = refused
+  steps_refused k steps rest UnknownObject refused = refused
+  steps_refused k steps rest BadLimits refused = refused
+  steps_refused k steps rest (BadStep i) refused = refused
+  steps_refused k steps rest TooManySteps refused = refused
+  steps_refused k steps rest BadInitial refused = absurd refused
+  steps_refused k steps rest Memory refused = refused
+
   module _ (start_at : List Data → Option S)
       (start_read : (ds : List Data) (s : S) → start_at ds ≡ Some s → (ds ≡ start_form s) × is_start s × has_form s)
       (start_again : (s : S) → is_start s → has_form s → start_at (start_form s) ≡ Some s)

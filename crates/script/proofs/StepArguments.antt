@@ -16,6 +16,12 @@ use Rattle.evidence.specs.Words.{word_form}
 use Rattle.token_reader.specs.Gathers.{IsTakenList}
 use Rattle.evidence.proofs.CertificateForms.{list_taken}
 use Rattle.world.specs.declared.step.StepOf.TheVariants.{Begin, End, Start, Look, Show, File, Take, Work, Put, Refute, Ask}
+use Rattle.script.specs.declared.step_argument.Argument.{Argument}
+use Rattle.script.specs.declared.step_argument.Argument.TheVariants as arguments
+use Rattle.script.specs.declared.step_argument.ArgumentKind.{ArgumentKind}
+use Rattle.script.specs.declared.step_argument.ArgumentKind.TheVariants as kinds
+use Rattle.script.specs.declared.step_argument.Plain.TheVariants as plains
+use Rattle.script.specs.declared.step_argument.PlainKind.TheVariants as plain_kinds
 use Rattle.script.specs.declared.step_parts.StepParts.{StepParts}
 use Rattle.script.specs.declared.step_parts.StepParts.TheVariants.{Nothing, Word, Number, Piece, Whole}
 use Rattle.script.specs.declared.step_word.StepWord.{StepWord}
@@ -26,9 +32,10 @@ use Rattle.script.specs.declared.written_step.WrittenStep.TheVariants.{Once, Sta
 use Rattle.script.specs.Shortened.{kept_written}
 use Rattle.script.specs.StepForm.{arguments_of, word_of, written_form, IsWritten}
 use Rattle.script.specs.StepWords.{name_of}
+use Rattle.script.specs.Steps.Arguments.{AreCounts, IsArgument, IsNoArgument, IsTimes}
 use Rattle.script.specs.Steps.Filing.{IsCaseIn}
-use Rattle.script.specs.Steps.StepParts.{AreNoStep, ArePartsOf, AreStep, HasCounts, IsAnyStepIn, IsAnyWritten, IsNextPart, IsStepIn, TakesNumber, alone, elements_of, most_elements, whole_of, with_number}
-use Rattle.script.proofs.StepForms.{after_word, has_word, no_begin, no_end, no_file, no_number, no_put, no_refute, no_start, no_word, no_work, too_many}
+use Rattle.script.specs.Steps.StepParts.{AreNoStep, ArePartsOf, AreStep, HasCounts, IsAnyStepIn, IsAnyWritten, IsNextPart, IsStepIn, TakesNumber, alone, elements_of, most_elements, wanted_after_number, wanted_after_word, wanted_next, whole_of, with_argument, word_with_number}
+use Rattle.script.proofs.StepForms.{after_word, has_word, no_begin, no_end, no_file, no_look, no_number, no_put, no_refute, no_start, no_word, no_work, too_many}
 
 module _ {C R : Type 0} (call_form : C → Data) (return_form : R → Data) (is_call : C → Type 0) where
   -- ---- after a word and a number
@@ -37,46 +44,71 @@ module _ {C R : Type 0} (call_form : C → Data) (return_form : R → Data) (is_
     abbrev IsNext : StepWord → Option (StepParts C R) → Type 0
     IsNext w next = IsNextPart call_form return_form is_call next (word_form name_of w ∷ number_form n ∷ []) d
 
-    with_argument : (w : StepWord) (e : Data) → d ≡ e → word_form name_of w ∷ number_form n ∷ d ∷ [] ≡ word_form name_of w ∷ number_form n ∷ e ∷ []
-    with_argument w e same = ap (λ (x : Data). word_form name_of w ∷ number_form n ∷ x ∷ []) same
+    argument_is : (w : StepWord) (e : Data) → d ≡ e → word_form name_of w ∷ number_form n ∷ d ∷ [] ≡ word_form name_of w ∷ number_form n ∷ e ∷ []
+    argument_is w e same = ap (λ (x : Data). word_form name_of w ∷ number_form n ∷ x ∷ []) same
 
-    pub begin_taken : (c : C) → (d ≡ call_form c) × is_call c → IsNext words.Begin (Some (Whole (Once (Begin n c))))
-    begin_taken c is = ((Once (Begin n c), with_argument words.Begin (call_form c) is.0, (0, is.1), refl), omega arith)
+    -- a step with the word has no more than the number
+    full : (w : StepWord) → most_elements w ≤ 2 → IsNext w None
+    full w few = λ more. too_many call_form return_form is_call w (number_form n ∷ d ∷ more) (omega (arith, few))
 
-    pub end_taken : (r : R) → d ≡ return_form r → IsNext words.End (Some (Whole (Once (End n r))))
-    end_taken r is = ((Once (End n r), with_argument words.End (return_form r) is, (0, tt), refl), omega arith)
+    begin_taken : (c : C) → (d ≡ call_form c) × is_call c → IsNext words.Begin (Some (Whole (Once (Begin n c))))
+    begin_taken c is = ((Once (Begin n c), argument_is words.Begin (call_form c) is.0, (0, is.1), refl), omega arith)
 
-    pub looks_taken : (times : ℕ) → d ≡ number_form times → 0 < times → times ≤ MAX_LOOKS → IsNext words.Look (Some (Whole (Looks n times)))
-    looks_taken times is some few = ((Looks n times, with_argument words.Look (number_form times) is, (0, (some, few)), refl), omega arith)
+    none_begun : ((c : C) → is_call c → d ≢ call_form c) → IsNext words.Begin None
+    none_begun none = λ more. after_word call_form return_form is_call words.Begin (number_form n ∷ d ∷ more)
+        (no_begin call_form return_form is_call (number_form n ∷ d ∷ more) (λ s c good same. let e : d ≡ call_form c = cc in none c good e))
 
-    pub file_taken : (criterion : Criterion) (certificate : Option Certificate) → IsCaseIn d (Some (criterion, certificate)) → IsNext words.File (Some (Whole (Once (File n criterion certificate))))
+    end_taken : (r : R) → d ≡ return_form r → IsNext words.End (Some (Whole (Once (End n r))))
+    end_taken r is = ((Once (End n r), argument_is words.End (return_form r) is, (0, tt), refl), omega arith)
+
+    none_ended : ((r : R) → d ≢ return_form r) → IsNext words.End None
+    none_ended none = λ more. after_word call_form return_form is_call words.End (number_form n ∷ d ∷ more)
+        (no_end call_form return_form is_call (number_form n ∷ d ∷ more) (λ s r same. let e : d ≡ return_form r = cc in none r e))
+
+    looks_taken : (times : ℕ) → d ≡ number_form times → 0 < times → times ≤ MAX_LOOKS → IsNext words.Look (Some (Whole (Looks n times)))
+    looks_taken times is some few = ((Looks n times, argument_is words.Look (number_form times) is, (0, (some, few)), refl), omega arith)
+
+    no_looks : ((times : ℕ) → IsTimes times → d ≢ number_form times) → IsNext words.Look None
+    no_looks none = λ more. after_word call_form return_form is_call words.Look (number_form n ∷ d ∷ more)
+        (no_look call_form return_form is_call (number_form n ∷ d ∷ more) (λ z same. absurd cc)
+        (λ z times some few same. let e : d ≡ number_form times = cc in none times (some, few) e))
+
+    file_taken : (criterion : Criterion) (certificate : Option Certificate) → IsCaseIn d (Some (criterion, certificate)) → IsNext words.File (Some (Whole (Once (File n criterion certificate))))
     file_taken criterion certificate is = (
       (
         Once (File n is.0.0 is.0.1),
-        with_argument words.File _ is.1,
+        argument_is words.File _ is.1,
         (0, is.2),
         ap (λ (case : Criterion × Option Certificate). Once (File n case.0 case.1)) is.3,
       ),
       omega arith,
     )
 
-    pub none_filed : IsCaseIn d None → IsNext words.File None
+    none_filed : IsCaseIn d None → IsNext words.File None
     none_filed none = λ more. after_word call_form return_form is_call words.File (number_form n ∷ d ∷ more)
         (no_file call_form return_form is_call (number_form n ∷ d ∷ more)
         (λ z criterion certificate good same. none (criterion, certificate) good (let e : d ≡ _ = cc in e)))
 
-    pub piece_taken : (session : ℕ) → d ≡ number_form session → IsNext words.Work (Some (Piece n session))
-    piece_taken session is = with_argument words.Work (number_form session) is
+    piece_taken : (session : ℕ) → d ≡ number_form session → IsNext words.Work (Some (Piece n session))
+    piece_taken session is = argument_is words.Work (number_form session) is
 
-    pub no_piece : ((m : ℕ) → d ≢ number_form m) → IsNext words.Work None
+    no_piece : ((m : ℕ) → d ≢ number_form m) → IsNext words.Work None
     no_piece none = λ more. after_word call_form return_form is_call words.Work (number_form n ∷ d ∷ more)
         (no_work call_form return_form is_call (number_form n ∷ d ∷ more) (λ c s i same. let e : d ≡ number_form s = cc in none s e))
 
-    pub put_taken : (verdict : ℕ) → d ≡ number_form verdict → IsNext words.Put (Some (Whole (Once (Put n verdict))))
-    put_taken verdict is = ((Once (Put n verdict), with_argument words.Put (number_form verdict) is, (0, tt), refl), omega arith)
+    put_taken : (verdict : ℕ) → d ≡ number_form verdict → IsNext words.Put (Some (Whole (Once (Put n verdict))))
+    put_taken verdict is = ((Once (Put n verdict), argument_is words.Put (number_form verdict) is, (0, tt), refl), omega arith)
 
-    pub refute_taken : (pattern : Pattern) → d ≡ pattern_form pattern → IsNext words.Refute (Some (Whole (Once (Refute n pattern))))
-    refute_taken pattern is = ((Once (Refute n pattern), with_argument words.Refute (pattern_form pattern) is, (0, tt), refl), omega arith)
+    none_put : ((verdict : ℕ) → d ≢ number_form verdict) → IsNext words.Put None
+    none_put none = λ more. after_word call_form return_form is_call words.Put (number_form n ∷ d ∷ more)
+        (no_put call_form return_form is_call (number_form n ∷ d ∷ more) (λ c verdict same. let e : d ≡ number_form verdict = cc in none verdict e))
+
+    refute_taken : (pattern : Pattern) → d ≡ pattern_form pattern → IsNext words.Refute (Some (Whole (Once (Refute n pattern))))
+    refute_taken pattern is = ((Once (Refute n pattern), argument_is words.Refute (pattern_form pattern) is, (0, tt), refl), omega arith)
+
+    none_refuted : ((pattern : Pattern) → d ≢ pattern_form pattern) → IsNext words.Refute None
+    none_refuted none = λ more. after_word call_form return_form is_call words.Refute (number_form n ∷ d ∷ more)
+        (no_refute call_form return_form is_call (number_form n ∷ d ∷ more) (λ c pattern same. let e : d ≡ pattern_form pattern = cc in none pattern e))
 
   -- ---- after a check's case and session
 
@@ -84,7 +116,7 @@ module _ {C R : Type 0} (call_form : C → Data) (return_form : R → Data) (is_
     abbrev IsNextOfPiece : Option (StepParts C R) → Type 0
     IsNextOfPiece next = IsNextPart call_form return_form is_call next (word_form name_of words.Work ∷ number_form case ∷ number_form session ∷ []) d
 
-    pub work_taken : (index : ℕ) → d ≡ number_form index → IsNextOfPiece (Some (Whole (Once (Work case (record { session = session; index = index })))))
+    work_taken : (index : ℕ) → d ≡ number_form index → IsNextOfPiece (Some (Whole (Once (Work case (record { session = session; index = index })))))
     work_taken index is = (
       (
         Once (Work case (record { session = session; index = index })),
@@ -95,36 +127,36 @@ module _ {C R : Type 0} (call_form : C → Data) (return_form : R → Data) (is_
       omega arith,
     )
 
+    none_worked : ((index : ℕ) → d ≢ number_form index) → IsNextOfPiece None
+    none_worked none = λ more. after_word call_form return_form is_call words.Work (number_form case ∷ number_form session ∷ d ∷ more)
+        (no_work call_form return_form is_call (number_form case ∷ number_form session ∷ d ∷ more)
+        (λ c s index same. let e : d ≡ number_form index = cc in none index e))
+
   -- ---- after a word
 
   module _ (d : Data) where
     abbrev IsNextOf : StepWord → Option (StepParts C R) → Type 0
     IsNextOf w next = IsNextPart call_form return_form is_call next (word_form name_of w ∷ []) d
 
-    pub start_taken : (told : List ℕ) → (d ≡ list_form number_form told) × All (λ n. n ≤ MAX_OPERATIONS) told → IsNextOf words.Start (Some (Whole (Once (Start told))))
+    start_taken : (told : List ℕ) → (d ≡ list_form number_form told) × All (λ n. n ≤ MAX_OPERATIONS) told → IsNextOf words.Start (Some (Whole (Once (Start told))))
     start_taken told is =
         ((Once (Start told), ap (λ (x : Data). word_form name_of words.Start ∷ x ∷ []) is.0, (length told, (refl, is.1)), refl), omega arith)
 
-    takes_number : (w : StepWord) → w ≢ words.Start → w ≢ words.Take → TakesNumber w
-    takes_number words.Begin no_start no_take = tt
-    takes_number words.End no_start no_take = tt
-    takes_number words.Start no_start no_take = absurd (no_start refl)
-    takes_number words.Look no_start no_take = tt
-    takes_number words.Show no_start no_take = tt
-    takes_number words.File no_start no_take = tt
-    takes_number words.Take no_start no_take = absurd (no_take refl)
-    takes_number words.Work no_start no_take = tt
-    takes_number words.Put no_start no_take = tt
-    takes_number words.Refute no_start no_take = tt
-    takes_number words.Ask no_start no_take = tt
+    none_started : ((told : List ℕ) → AreCounts told → d ≢ list_form number_form told) → IsNextOf words.Start None
+    none_started none = λ more. after_word call_form return_form is_call words.Start (d ∷ more)
+        (no_start call_form return_form is_call (d ∷ more) (λ same. absurd cc)
+        (λ told are same. let e : d ≡ list_form number_form told = cc in none told are e))
 
-    module _ (w : StepWord) (no_start : w ≢ words.Start) (no_take : w ≢ words.Take) where
-      pub number_taken : (n : ℕ) → d ≡ number_form n → IsNextOf w (Some (Number w n))
-      number_taken n is = (takes_number w no_start no_take, ap (λ (x : Data). word_form name_of w ∷ x ∷ []) is)
+    alone_taken : IsNextOf words.Take None
+    alone_taken = λ more. too_many call_form return_form is_call words.Take (d ∷ more) (omega arith)
 
-      pub number_missing : ((n : ℕ) → d ≢ number_form n) → IsNextOf w None
+    module _ (w : StepWord) (takes : TakesNumber w) where
+      number_taken : (n : ℕ) → d ≡ number_form n → IsNextOf w (Some (Number w n))
+      number_taken n is = (takes, ap (λ (x : Data). word_form name_of w ∷ x ∷ []) is)
+
+      number_missing : ((n : ℕ) → d ≢ number_form n) → IsNextOf w None
       number_missing none = λ more. after_word call_form return_form is_call w (d ∷ more)
-          (no_number call_form return_form is_call w (d ∷ more) (takes_number w no_start no_take) (λ n rest same. let e : d ≡ number_form n = cc in none n e))
+          (no_number call_form return_form is_call w (d ∷ more) takes (λ n rest same. let e : d ≡ number_form n = cc in none n e))
 
   -- ---- any element
 
@@ -132,17 +164,17 @@ module _ {C R : Type 0} (call_form : C → Data) (return_form : R → Data) (is_
     abbrev IsNextAfter : Option (StepParts C R) → Type 0
     IsNextAfter next = IsNextPart call_form return_form is_call next ds d
 
-    pub word_taken : (w : StepWord) → ds ≡ [] → d ≡ word_form name_of w → IsNextAfter (Some (Word w))
+    word_taken : (w : StepWord) → ds ≡ [] → d ≡ word_form name_of w → IsNextAfter (Some (Word w))
     word_taken w none is = subst (λ (es : List Data). es ++ d ∷ [] ≡ word_form name_of w ∷ []) (sym none) (ap (λ (x : Data). x ∷ []) is)
 
-    pub word_missing : ds ≡ [] → ((w : StepWord) → d ≢ word_form name_of w) → IsNextAfter None
+    word_missing : ds ≡ [] → ((w : StepWord) → d ≢ word_form name_of w) → IsNextAfter None
     word_missing none other = λ more. subst (λ (es : List Data). AreNoStep call_form return_form is_call (es ++ d ∷ more)) (sym none) (no_word call_form return_form is_call d more other)
 
-    pub next_after : (next : Option (StepParts C R)) (es : List Data) → ds ≡ es → IsNextPart call_form return_form is_call next es d → IsNextAfter next
+    next_after : (next : Option (StepParts C R)) (es : List Data) → ds ≡ es → IsNextPart call_form return_form is_call next es d → IsNextAfter next
     next_after next es same is = subst (λ (xs : List Data). IsNextPart call_form return_form is_call next xs d) (sym same) is
 
     -- as much as a step with the word may have was taken
-    pub all_taken : (kept : WrittenStep C R) → ArePartsOf call_form return_form is_call (Whole kept) ds → IsNextAfter None
+    all_taken : (kept : WrittenStep C R) → ArePartsOf call_form return_form is_call (Whole kept) ds → IsNextAfter None
     all_taken kept are = λ more step good same.
         let e : ds ++ d ∷ more ≡ elements_of call_form return_form step = same in
         let first : word_form name_of (word_of are.0.0) ∷ (rest_of are ++ d ∷ more) ≡ elements_of call_form return_form step =
@@ -174,6 +206,147 @@ module _ {C R : Type 0} (call_form : C → Data) (return_form : R → Data) (is_
             let most = are.1 in
             let sum = length-append (rest_of are) (d ∷ more) in
             omega (arith, word, many, most, sum)
+
+    -- what is wanted comes next
+
+    abbrev IsWanted : Option ArgumentKind → Argument C R → Type 0
+    IsWanted None a = ⊥
+    IsWanted (Some kind) a = IsArgument call_form return_form is_call kind d a
+
+    taken_number : (w : StepWord) → TakesNumber w → ds ≡ word_form name_of w ∷ [] → (a : Argument C R) → IsArgument call_form return_form is_call (kinds.Plain plain_kinds.Number) d a
+        → IsNextAfter (with_argument (Word w) a)
+    taken_number w takes are (arguments.Plain (plains.Number n)) is = next_after (Some (Number w n)) (word_form name_of w ∷ []) are (number_taken d w takes n is)
+    taken_number w takes are _ is = absurd is
+
+    taken_after_word : (w : StepWord) → ds ≡ word_form name_of w ∷ [] → (a : Argument C R) → IsWanted (wanted_after_word w) a → IsNextAfter (with_argument (Word w) a)
+    taken_after_word words.Begin are a is = taken_number words.Begin tt are a is
+    taken_after_word words.End are a is = taken_number words.End tt are a is
+    taken_after_word words.Start are (arguments.Plain (plains.Counts told)) is = next_after (Some (Whole (Once (Start told)))) (word_form name_of words.Start ∷ []) are (start_taken d told is)
+    taken_after_word words.Start are _ is = absurd is
+    taken_after_word words.Look are a is = taken_number words.Look tt are a is
+    taken_after_word words.Show are a is = taken_number words.Show tt are a is
+    taken_after_word words.File are a is = taken_number words.File tt are a is
+    taken_after_word words.Take are a is = absurd is
+    taken_after_word words.Work are a is = taken_number words.Work tt are a is
+    taken_after_word words.Put are a is = taken_number words.Put tt are a is
+    taken_after_word words.Refute are a is = taken_number words.Refute tt are a is
+    taken_after_word words.Ask are a is = taken_number words.Ask tt are a is
+
+    taken_after_number : (w : StepWord) (n : ℕ) → ds ≡ word_form name_of w ∷ number_form n ∷ [] → (a : Argument C R) → IsWanted (wanted_after_number w) a
+        → IsNextAfter (with_argument (Number w n) a)
+    taken_after_number words.Begin n are (arguments.Call c) is = next_after (Some (Whole (Once (Begin n c)))) (word_form name_of words.Begin ∷ number_form n ∷ []) are (begin_taken n d c is)
+    taken_after_number words.Begin n are _ is = absurd is
+    taken_after_number words.End n are (arguments.Return r) is = next_after (Some (Whole (Once (End n r)))) (word_form name_of words.End ∷ number_form n ∷ []) are (end_taken n d r is)
+    taken_after_number words.End n are _ is = absurd is
+    taken_after_number words.Start n are a is = absurd is
+    taken_after_number words.Look n are (arguments.Plain (plains.Times times)) is = next_after (Some (Whole (Looks n times))) (word_form name_of words.Look ∷ number_form n ∷ []) are (looks_taken n d times is.0 is.1.0 is.1.1)
+    taken_after_number words.Look n are _ is = absurd is
+    taken_after_number words.Show n are a is = absurd is
+    taken_after_number words.File n are (arguments.Plain (plains.Case criterion certificate)) is = next_after (Some (Whole (Once (File n criterion certificate)))) (word_form name_of words.File ∷ number_form n ∷ []) are (file_taken n d criterion certificate is)
+    taken_after_number words.File n are _ is = absurd is
+    taken_after_number words.Take n are a is = absurd is
+    taken_after_number words.Work n are (arguments.Plain (plains.Number session)) is = next_after (Some (Piece n session)) (word_form name_of words.Work ∷ number_form n ∷ []) are (piece_taken n d session is)
+    taken_after_number words.Work n are _ is = absurd is
+    taken_after_number words.Put n are (arguments.Plain (plains.Number verdict)) is = next_after (Some (Whole (Once (Put n verdict)))) (word_form name_of words.Put ∷ number_form n ∷ []) are (put_taken n d verdict is)
+    taken_after_number words.Put n are _ is = absurd is
+    taken_after_number words.Refute n are (arguments.Plain (plains.Pattern pattern)) is = next_after (Some (Whole (Once (Refute n pattern)))) (word_form name_of words.Refute ∷ number_form n ∷ []) are (refute_taken n d pattern is)
+    taken_after_number words.Refute n are _ is = absurd is
+    taken_after_number words.Ask n are a is = absurd is
+
+    taken_wanted : (parts : StepParts C R) → ArePartsOf call_form return_form is_call parts ds → (a : Argument C R) → IsWanted (wanted_next parts) a
+        → IsNextAfter (with_argument parts a)
+    taken_wanted Nothing are (arguments.Plain (plains.Word w)) is = word_taken w are is
+    taken_wanted Nothing are _ is = absurd is
+    taken_wanted (Word w) are a is = taken_after_word w are a is
+    taken_wanted (Number w n) are a is = taken_after_number w n are.1 a is
+    taken_wanted (Piece case session) are (arguments.Plain (plains.Number index)) is =
+        next_after (Some (Whole (Once (Work case (record { session = session; index = index })))))
+        (word_form name_of words.Work ∷ number_form case ∷ number_form session ∷ []) are (work_taken case session d index is)
+    taken_wanted (Piece case session) are _ is = absurd is
+    taken_wanted (Whole kept) are a is = absurd is
+
+    pub next_taken : (parts : StepParts C R) → ArePartsOf call_form return_form is_call parts ds → (kind : ArgumentKind) → Some kind ≡ wanted_next parts
+        → (a : Argument C R) → IsArgument call_form return_form is_call kind d a → IsNextAfter (with_argument parts a)
+    next_taken parts are kind wants a is = taken_wanted parts are a (subst (λ (o : Option ArgumentKind). IsWanted o a) wants is)
+
+    -- it does not
+
+    abbrev IsMissing : Option ArgumentKind → Type 0
+    IsMissing None = ⊥
+    IsMissing (Some kind) = IsNoArgument call_form return_form is_call kind d
+
+    missing_after_word : (w : StepWord) → ds ≡ word_form name_of w ∷ [] → IsMissing (wanted_after_word w) → IsNextAfter None
+    missing_after_word words.Begin are none = next_after None (word_form name_of words.Begin ∷ []) are (number_missing d words.Begin tt none)
+    missing_after_word words.End are none = next_after None (word_form name_of words.End ∷ []) are (number_missing d words.End tt none)
+    missing_after_word words.Start are none = next_after None (word_form name_of words.Start ∷ []) are (none_started d none)
+    missing_after_word words.Look are none = next_after None (word_form name_of words.Look ∷ []) are (number_missing d words.Look tt none)
+    missing_after_word words.Show are none = next_after None (word_form name_of words.Show ∷ []) are (number_missing d words.Show tt none)
+    missing_after_word words.File are none = next_after None (word_form name_of words.File ∷ []) are (number_missing d words.File tt none)
+    missing_after_word words.Take are none = absurd none
+    missing_after_word words.Work are none = next_after None (word_form name_of words.Work ∷ []) are (number_missing d words.Work tt none)
+    missing_after_word words.Put are none = next_after None (word_form name_of words.Put ∷ []) are (number_missing d words.Put tt none)
+    missing_after_word words.Refute are none = next_after None (word_form name_of words.Refute ∷ []) are (number_missing d words.Refute tt none)
+    missing_after_word words.Ask are none = next_after None (word_form name_of words.Ask ∷ []) are (number_missing d words.Ask tt none)
+
+    missing_after_number : (w : StepWord) (n : ℕ) → ds ≡ word_form name_of w ∷ number_form n ∷ [] → IsMissing (wanted_after_number w) → IsNextAfter None
+    missing_after_number words.Begin n are none = next_after None (word_form name_of words.Begin ∷ number_form n ∷ []) are (none_begun n d none)
+    missing_after_number words.End n are none = next_after None (word_form name_of words.End ∷ number_form n ∷ []) are (none_ended n d none)
+    missing_after_number words.Start n are none = absurd none
+    missing_after_number words.Look n are none = next_after None (word_form name_of words.Look ∷ number_form n ∷ []) are (no_looks n d none)
+    missing_after_number words.Show n are none = absurd none
+    missing_after_number words.File n are none = next_after None (word_form name_of words.File ∷ number_form n ∷ []) are (none_filed n d none)
+    missing_after_number words.Take n are none = absurd none
+    missing_after_number words.Work n are none = next_after None (word_form name_of words.Work ∷ number_form n ∷ []) are (no_piece n d none)
+    missing_after_number words.Put n are none = next_after None (word_form name_of words.Put ∷ number_form n ∷ []) are (none_put n d none)
+    missing_after_number words.Refute n are none = next_after None (word_form name_of words.Refute ∷ number_form n ∷ []) are (none_refuted n d none)
+    missing_after_number words.Ask n are none = absurd none
+
+    missing_wanted : (parts : StepParts C R) → ArePartsOf call_form return_form is_call parts ds → IsMissing (wanted_next parts) → IsNextAfter None
+    missing_wanted Nothing are none = word_missing are none
+    missing_wanted (Word w) are none = missing_after_word w are none
+    missing_wanted (Number w n) are none = missing_after_number w n are.1 none
+    missing_wanted (Piece case session) are none =
+        next_after None (word_form name_of words.Work ∷ number_form case ∷ number_form session ∷ []) are (none_worked case session d none)
+    missing_wanted (Whole kept) are none = absurd none
+
+    pub next_missing : (parts : StepParts C R) → ArePartsOf call_form return_form is_call parts ds → (kind : ArgumentKind) → Some kind ≡ wanted_next parts
+        → IsNoArgument call_form return_form is_call kind d → IsNextAfter None
+    next_missing parts are kind wants none = missing_wanted parts are (subst IsMissing wants none)
+
+    -- nothing is wanted
+
+    full_after_word : (w : StepWord) → ds ≡ word_form name_of w ∷ [] → None ≡ wanted_after_word w → IsNextAfter None
+    full_after_word words.Begin are none = absurd cc
+    full_after_word words.End are none = absurd cc
+    full_after_word words.Start are none = absurd cc
+    full_after_word words.Look are none = absurd cc
+    full_after_word words.Show are none = absurd cc
+    full_after_word words.File are none = absurd cc
+    full_after_word words.Take are none = next_after None (word_form name_of words.Take ∷ []) are (alone_taken d)
+    full_after_word words.Work are none = absurd cc
+    full_after_word words.Put are none = absurd cc
+    full_after_word words.Refute are none = absurd cc
+    full_after_word words.Ask are none = absurd cc
+
+    full_after_number : (w : StepWord) (n : ℕ) → TakesNumber w → ds ≡ word_form name_of w ∷ number_form n ∷ [] → None ≡ wanted_after_number w → IsNextAfter None
+    full_after_number words.Begin n takes are none = absurd cc
+    full_after_number words.End n takes are none = absurd cc
+    full_after_number words.Start n takes are none = absurd takes
+    full_after_number words.Look n takes are none = absurd cc
+    full_after_number words.Show n takes are none = next_after None (word_form name_of words.Show ∷ number_form n ∷ []) are (full n d words.Show (omega arith))
+    full_after_number words.File n takes are none = absurd cc
+    full_after_number words.Take n takes are none = absurd takes
+    full_after_number words.Work n takes are none = absurd cc
+    full_after_number words.Put n takes are none = absurd cc
+    full_after_number words.Refute n takes are none = absurd cc
+    full_after_number words.Ask n takes are none = next_after None (word_form name_of words.Ask ∷ number_form n ∷ []) are (full n d words.Ask (omega arith))
+
+    pub none_wanted : (parts : StepParts C R) → ArePartsOf call_form return_form is_call parts ds → None ≡ wanted_next parts → IsNextAfter None
+    none_wanted Nothing are none = absurd cc
+    none_wanted (Word w) are none = full_after_word w are none
+    none_wanted (Number w n) are none = full_after_number w n are.0 are.1 none
+    none_wanted (Piece case session) are none = absurd cc
+    none_wanted (Whole kept) are none = all_taken kept are
 
   -- ---- all elements
 
@@ -216,7 +389,7 @@ module _ {C R : Type 0} (call_form : C → Data) (return_form : R → Data) (is_
           → IsAnyWritten is_call step → kept_written step ≡ step → IsWhole (Some step)
       number_there w are step same is kept = (step, are ∙ same, is, sym kept)
 
-      whole_number : (w : StepWord) → TakesNumber w → IsAlone w → IsWhole (with_number w n)
+      whole_number : (w : StepWord) → TakesNumber w → IsAlone w → IsWhole (word_with_number w n)
       whole_number words.Begin takes are = no_more words.Begin are (no_begin call_form return_form is_call _ (λ s c good same. absurd cc))
       whole_number words.End takes are = no_more words.End are (no_end call_form return_form is_call _ (λ s r same. absurd cc))
       whole_number words.Start takes are = absurd takes

@@ -54,5 +54,8 @@ pub(crate) fn next_case(
     if let Token::String(name) = token {
         return Ok(named_case(name));
     }
-    Ok(certified_case(certificate_from(alloc, token, reader, depth)?))
+    match certificate_from(alloc, token, reader, depth) {
+        Ok(read) => Ok(certified_case(read)),
+        Err(error) => Err(error),
+    }
 }

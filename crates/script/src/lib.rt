@@ -21,6 +21,7 @@ mod script_parts;
 mod script_place;
 mod script_steps;
 mod scripted;
+mod step_argument;
 mod step_forms;
 mod step_parts;
 mod step_word;

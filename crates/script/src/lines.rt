@@ -1,14 +1,19 @@
 //! The lines of replies.
 
-ghost use Rattle.std.specs.Prelude.{◌≡◌, ◌++◌, codes, IfOk, string_bytes};
-ghost use Rattle.serde_json.specs.Written.{compact_text};
+ghost use Rattle.std.specs.Prelude.{◌≡◌, ◌++◌, codes, decimal, false, IfOk, string_bytes};
+ghost use Rattle.serde_json.specs.View.{view};
+ghost use Rattle.serde_json.specs.Written.{compact_text, has_float};
 ghost use Rattle.operations.specs.Form.{history_form};
+ghost use Rattle.bad_patterns.specs.KindNames.{kind_name};
 ghost use Rattle.script.specs.ReplyLines.{answer_text, line_for, operation_text, verdict_text};
+ghost use Rattle.script.specs.Steps.Lines.{other_text};
 
+use bad_patterns::Kind;
 use board::Answer;
 use cert_check::Outcome;
 use history::{History, OpId};
 use operations::{Named, write_parts};
+use serde_json::Value;
 use std::alloc::{AllocError, Global};
 use world::{Reply, ReplyOf};
 
@@ -24,32 +29,52 @@ pub fn reply_line<O: Named>(alloc: Global, reply: &Reply<O>) -> Result<String, A
     ensures { IfOk result (λ text. string_bytes text ≡ line_for O.name O.operation_form O.start_form reply.now) }
 {
     match reply {
-        ReplyOf::Done(op) => placed_line(alloc, *op),
-        ReplyOf::Sealer(number) | ReplyOf::Case(number) => format!(in alloc; "ok {number}\n"),
+        ReplyOf::Sealed(history) => history_line(alloc, history),
+        _ => other_line(alloc, reply),
+    }
+}
+
+/// The line of a reply that shows no history.
+fn other_line<H>(alloc: Global, reply: &ReplyOf<H>) -> Result<String, AllocError>
+    ensures { IfOk result (λ text. string_bytes text ≡ other_text reply.now) }
+{
+    match reply {
+        ReplyOf::Done(op) => placed(alloc, "ok ", *op),
+        ReplyOf::Sealer(number) | ReplyOf::Case(number) => numbered(alloc, "ok ", *number, "\n"),
         ReplyOf::Found(_, true) => String::from_str(alloc, "seen\n"),
         ReplyOf::Found(_, false) | ReplyOf::Taken(None) => String::from_str(alloc, "none\n"),
-        ReplyOf::Sealed(history) => history_line(alloc, history),
-        ReplyOf::Taken(Some(piece)) => {
-            let OpId { session, index } = piece.op;
-            let number = piece.number;
-            format!(in alloc; "take {number} {session}.{index}\n")
-        }
+        ReplyOf::Taken(Some(piece)) => piece_line(alloc, piece.number, piece.op),
         ReplyOf::Verdict(number, outcome) => verdict_line(alloc, *number, *outcome),
         ReplyOf::Accepted => String::from_str(alloc, "ok\n"),
         ReplyOf::Answer(answer) => answer_line(alloc, *answer),
         ReplyOf::Refused(refusal) => {
-            let number = refusal.number();
-            format!(in alloc; "refused {number}\n")
+            numbered(alloc, "refused ", refusal.number() as usize, "\n")
         }
+        ReplyOf::Sealed(_) => Ok(String::new(alloc)),
     }
 }
 
-/// The line of an operation that began or ended.
-fn placed_line(alloc: Global, op: OpId) -> Result<String, AllocError>
-    ensures { IfOk result (λ text. string_bytes text ≡ codes "ok " ++ operation_text op) }
+/// A number between two texts.
+fn numbered(alloc: Global, before: &str, number: usize, after: &str) -> Result<String, AllocError>
+    ensures { IfOk result (λ text. string_bytes text ≡ before.now ++ (decimal number ++ after.now)) }
+{
+    format!(in alloc; "{before}{number}{after}")
+}
+
+/// An operation after a text.
+fn placed(alloc: Global, before: &str, op: OpId) -> Result<String, AllocError>
+    ensures { IfOk result (λ text. string_bytes text ≡ before.now ++ operation_text op) }
 {
     let OpId { session, index } = op;
-    format!(in alloc; "ok {session}.{index}\n")
+    format!(in alloc; "{before}{session}.{index}\n")
+}
+
+/// The line of a piece of a case that is taken.
+fn piece_line(alloc: Global, case: usize, op: OpId) -> Result<String, AllocError>
+    ensures { IfOk result (λ text. string_bytes text ≡ codes "take " ++ (decimal case ++ (codes " " ++ operation_text op))) }
+{
+    let OpId { session, index } = op;
+    format!(in alloc; "take {case} {session}.{index}\n")
 }
 
 /// The line of a history.
@@ -57,16 +82,20 @@ fn history_line<O: Named>(alloc: Global, history: &History<O>) -> Result<String,
     ensures { IfOk result
         (λ text. string_bytes text ≡ compact_text (history_form O.name O.operation_form O.start_form history.now) ++ codes "\n") }
 {
-    let text = history_text(alloc, history)?;
-    format!(in alloc; "{text}\n")
+    let value = write_parts(alloc, history)?;
+    let line = value_line(alloc, &value);
+    drop(value);
+    line
 }
 
-/// The compact text of a history.
-fn history_text<O: Named>(alloc: Global, history: &History<O>) -> Result<String, AllocError>
-    ensures { IfOk result
-        (λ text. string_bytes text ≡ compact_text (history_form O.name O.operation_form O.start_form history.now)) }
+/// The line of a value that has no float: its compact text.
+fn value_line(alloc: Global, value: &Value) -> Result<String, AllocError>
+    ensures { IfOk result (λ text. has_float (view value.now) ≡ false
+        → string_bytes text ≡ compact_text (view value.now) ++ codes "\n") }
 {
-    write_parts(alloc, history)?.to_string(alloc)
+    let mut text = value.to_string(alloc)?;
+    text.push_str("\n")?;
+    Ok(text)
 }
 
 /// The line of a verdict.
@@ -74,9 +103,17 @@ fn verdict_line(alloc: Global, number: usize, outcome: Outcome) -> Result<String
     ensures { IfOk result (λ text. string_bytes text ≡ verdict_text number outcome) }
 {
     match outcome {
-        Outcome::Explained => format!(in alloc; "verdict {number} explained\n"),
-        Outcome::Unexplained => format!(in alloc; "verdict {number} unexplained\n"),
+        Outcome::Explained => numbered(alloc, "verdict ", number, " explained\n"),
+        Outcome::Unexplained => numbered(alloc, "verdict ", number, " unexplained\n"),
     }
+}
+
+/// The line of a case against which a pattern of this kind was accepted.
+fn kind_line(alloc: Global, kind: Kind) -> Result<String, AllocError>
+    ensures { IfOk result (λ text. string_bytes text ≡ codes "no " ++ (kind_name kind ++ codes "\n")) }
+{
+    let kind = kind.name();
+    format!(in alloc; "no {kind}\n")
 }
 
 /// The line of the state of a case.
@@ -85,14 +122,9 @@ fn answer_line(alloc: Global, answer: Answer) -> Result<String, AllocError>
 {
     match answer {
         Answer::Yes => String::from_str(alloc, "yes\n"),
-        Answer::No(kind) => {
-            let kind = kind.name();
-            format!(in alloc; "no {kind}\n")
-        }
+        Answer::No(kind) => kind_line(alloc, kind),
         Answer::Unknown(None) => String::from_str(alloc, "unknown\n"),
-        Answer::Unknown(Some(OpId { session, index })) => {
-            format!(in alloc; "unknown {session}.{index}\n")
-        }
-        Answer::Open(rows) => format!(in alloc; "open {rows}\n"),
+        Answer::Unknown(Some(op)) => placed(alloc, "unknown ", op),
+        Answer::Open(rows) => numbered(alloc, "open ", rows as usize, "\n"),
     }
 }

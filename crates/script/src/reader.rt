@@ -10,14 +10,12 @@ ghost use Rattle.script.specs.Shortened.{IsKeptFrom};
 ghost use Rattle.script.specs.Steps.ScriptsRead.{IsAnyKept, rest_seen};
 
 use crate::any_script::AnyScript;
-use crate::reading_script::script_with;
+use crate::reading_script::script_of;
 use crate::script_error::ScriptError;
 use crate::script_parts::script_parts;
 use crate::script_place::ScriptPlace;
-use crate::script_steps::read_steps;
 use bounded_json::{TextError, read_bounded};
 use history::MAX_SESSIONS;
-use objects::{AddRemoveSet, Counter, Counters, Memory, Queue, Queues, Register, Sets};
 use operations::{ObjectName, object_named};
 use serde_json::Value;
 use std::alloc::Global;
@@ -69,37 +67,13 @@ fn read_named(
         → map view rest.now ≡ rest_seen p.rest → MatchResult result (IsAnyKept p) (IsRefusalBy name sessions p.steps p.rest) }
 {
     match name {
-        ObjectName::Register => {
-            let steps = read_steps::<Register>(alloc, text)?;
-            Ok(AnyScript::Register(script_with(alloc, sessions, steps, rest)?))
-        }
-        ObjectName::Counter => {
-            let steps = read_steps::<Counter>(alloc, text)?;
-            Ok(AnyScript::Counter(script_with(alloc, sessions, steps, rest)?))
-        }
-        ObjectName::Set => {
-            let steps = read_steps::<AddRemoveSet>(alloc, text)?;
-            Ok(AnyScript::Set(script_with(alloc, sessions, steps, rest)?))
-        }
-        ObjectName::Queue => {
-            let steps = read_steps::<Queue>(alloc, text)?;
-            Ok(AnyScript::Queue(script_with(alloc, sessions, steps, rest)?))
-        }
-        ObjectName::Memory => {
-            let steps = read_steps::<Memory>(alloc, text)?;
-            Ok(AnyScript::Memory(script_with(alloc, sessions, steps, rest)?))
-        }
-        ObjectName::Counters => {
-            let steps = read_steps::<Counters>(alloc, text)?;
-            Ok(AnyScript::Counters(script_with(alloc, sessions, steps, rest)?))
-        }
-        ObjectName::Sets => {
-            let steps = read_steps::<Sets>(alloc, text)?;
-            Ok(AnyScript::Sets(script_with(alloc, sessions, steps, rest)?))
-        }
-        ObjectName::Queues => {
-            let steps = read_steps::<Queues>(alloc, text)?;
-            Ok(AnyScript::Queues(script_with(alloc, sessions, steps, rest)?))
-        }
+        ObjectName::Register => Ok(AnyScript::Register(script_of(alloc, sessions, text, rest)?)),
+        ObjectName::Counter => Ok(AnyScript::Counter(script_of(alloc, sessions, text, rest)?)),
+        ObjectName::Set => Ok(AnyScript::Set(script_of(alloc, sessions, text, rest)?)),
+        ObjectName::Queue => Ok(AnyScript::Queue(script_of(alloc, sessions, text, rest)?)),
+        ObjectName::Memory => Ok(AnyScript::Memory(script_of(alloc, sessions, text, rest)?)),
+        ObjectName::Counters => Ok(AnyScript::Counters(script_of(alloc, sessions, text, rest)?)),
+        ObjectName::Sets => Ok(AnyScript::Sets(script_of(alloc, sessions, text, rest)?)),
+        ObjectName::Queues => Ok(AnyScript::Queues(script_of(alloc, sessions, text, rest)?)),
     }
 }

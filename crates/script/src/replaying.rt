@@ -54,7 +54,9 @@ fn replay_of<O: Named + Refutable>(alloc: Global, script: Script<O>) -> Result<S
         IsReplayOf O.matches O.answer O.passes O.name O.operation_form O.start_form script (string_bytes text)) }
 {
     let replies = script.run(alloc)?;
-    reply_lines::<O>(alloc, replies.as_slice())
+    let text = reply_lines::<O>(alloc, replies.as_slice());
+    drop(replies);
+    text
 }
 
 /// The lines of replies, one after the other.

@@ -72,6 +72,8 @@ impl<O: Refutable> Script<O> {
             steps,
         } = self;
         let steps = written_out(alloc, sessions as usize, steps)?;
-        World::<O>::run(alloc, sessions, &start, steps.as_slice())
+        let replies = World::<O>::run(alloc, sessions, &start, steps.as_slice());
+        drop(steps);
+        replies
     }
 }

@@ -1,12 +1,9 @@
 //! Reading the steps of a script from its text.
 
-ghost use Rattle.std.specs.Prelude.{◌<◌, ℕ, List, length, IfOk, IfErr, MatchResult, OnOk};
-ghost use Rattle.serde_json.specs.Data.{Data};
-ghost use Rattle.bounded_json.specs.Steps.Reading.{IsRefused};
+ghost use Rattle.std.specs.Prelude.{◌≡◌, ℕ, IfOk, MatchResult};
 ghost use Rattle.operations.specs.AnyForm.{IsJson};
 ghost use Rattle.script.specs.ScriptForm.{IsFew, Parts, parts_form};
-ghost use Rattle.script.specs.Steps.StepsTaken.{ArePassed, AreSteps, IsNextPassed, IsStepsRefusal};
-ghost use Rattle.token_reader.specs.Tokens.{IsValue};
+ghost use Rattle.script.specs.Steps.StepsTaken.{AreSteps, IsStepsRefusal};
 
 use crate::arguments::next_number;
 use crate::script_error::ScriptError;
@@ -35,46 +32,19 @@ enum Passed<C, R> {
 /// Which elements of a script of an object were passed.
 type PassedOf<F> = Passed<<F as StepForms>::Call, <F as StepForms>::Ret>;
 
-/// What was passed, with the element that comes next, or none where no script goes on so. It passes the element.
-fn next_passed<F: StepForms>(
-    alloc: Global,
-    reader: &mut Reader<'_>,
-    depth: usize,
-    passed: PassedOf<F>,
-) -> Result<Option<PassedOf<F>>, TextError>
-    ensures read { IfOk result
-        (λ next. IsValue (λ d. (ds : List Data) → ArePassed F.call_form F.return_form F.is_call passed ds
-        → IsNextPassed F.call_form F.return_form F.is_call next ds d) depth reader.old reader.new) }
-    ensures shorter { OnOk result (length reader.new < length reader.old) }
-    ensures refused { IfErr result (IsRefused depth reader.old) }
-{
-    match passed {
-        Passed::Nothing => {
-            pass_value(alloc, reader, depth)?;
-            Ok(Some(Passed::Name))
-        }
-        Passed::Name => match next_number(alloc, reader, depth)? {
-            Some(sessions) => Ok(Some(Passed::Sessions(sessions))),
-            None => Ok(None),
-        },
-        Passed::Sessions(sessions) => match next_steps::<F>(alloc, reader, depth, sessions)? {
-            Some(steps) => Ok(Some(Passed::Steps(sessions, steps))),
-            None => Ok(None),
-        },
-        Passed::Steps(sessions, steps) => match pass_value(alloc, reader, depth) {
-            Ok(()) => Ok(Some(Passed::Steps(sessions, steps))),
-            Err(error) => {
-                drop(steps);
-                Err(error)
-            }
-        },
-    }
-}
-
 /// A script of which the steps are being read.
 #[derive(Drop)]
 struct ScriptSteps<F: StepForms> {
     passed: PassedOf<F>,
+}
+
+impl<F: StepForms> ScriptSteps<F> {
+    /// Passes one element more.
+    fn pass(&mut self, next: PassedOf<F>)
+        ensures { self.new.passed ≡ next }
+    {
+        drop(mem::replace(&mut self.passed, next));
+    }
 }
 
 impl<F: StepForms> Gather for ScriptSteps<F> {
@@ -90,13 +60,33 @@ impl<F: StepForms> Gather for ScriptSteps<F> {
         reader: &mut Reader<'_>,
         depth: usize,
     ) -> Result<bool, TextError> {
-        let passed = mem::replace(&mut self.passed, Passed::Nothing);
-        match next_passed::<F>(alloc, reader, depth, passed)? {
-            Some(next) => {
-                self.passed = next;
+        match &self.passed {
+            Passed::Nothing => {
+                pass_value(alloc, reader, depth)?;
+                self.pass(Passed::Name);
                 Ok(true)
             }
-            None => Ok(false),
+            Passed::Name => {
+                let Some(sessions) = next_number(alloc, reader, depth)? else {
+                    return Ok(false);
+                };
+                self.pass(Passed::Sessions(sessions));
+                Ok(true)
+            }
+            Passed::Sessions(sessions) => {
+                let sessions = *sessions;
+                match next_steps::<F>(alloc, reader, depth, sessions)? {
+                    Some(steps) => {
+                        self.pass(Passed::Steps(sessions, steps));
+                        Ok(true)
+                    }
+                    None => Ok(false),
+                }
+            }
+            Passed::Steps(_, _) => {
+                pass_value(alloc, reader, depth)?;
+                Ok(true)
+            }
         }
     }
 }
@@ -119,16 +109,26 @@ pub(crate) fn read_steps<F: StepForms>(
         passed: Passed::Nothing,
     };
     match gather_text(alloc, text, &mut script) {
-        Ok(true) => {}
-        Ok(false) => return Err(ScriptError::BadShape),
-        Err(TextError::NotJson) => return Err(ScriptError::NotJson),
-        Err(TextError::Memory) => return Err(ScriptError::Memory),
-    }
-    let Passed::Steps(_, taken) = script.passed else {
-        return Err(ScriptError::BadShape);
-    };
-    match taken {
-        StepsTaken::Fine(steps, _) => Ok(steps),
-        StepsTaken::Refused(error) => Err(error),
+        Ok(true) => {
+            let Passed::Steps(_, taken) = script.passed else {
+                return Err(ScriptError::BadShape);
+            };
+            match taken {
+                StepsTaken::Fine(steps, _) => Ok(steps),
+                StepsTaken::Refused(error) => Err(error),
+            }
+        }
+        Ok(false) => {
+            drop(script);
+            Err(ScriptError::BadShape)
+        }
+        Err(TextError::NotJson) => {
+            drop(script);
+            Err(ScriptError::NotJson)
+        }
+        Err(TextError::Memory) => {
+            drop(script);
+            Err(ScriptError::Memory)
+        }
     }
 }

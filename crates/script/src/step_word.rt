@@ -6,7 +6,7 @@ ghost use Rattle.script.specs.StepWords.{name_of};
 use evidence::Word;
 
 /// The word that a step of a script begins with.
-#[derive(Clone, Copy, Debug, PartialEq, Eq)]
+#[derive(Clone, Copy)]
 pub enum StepWord {
     /// A session begins an operation.
     Begin,

@@ -63,7 +63,8 @@ fn with_fine_step<F: StepForms>(
 ) -> Result<TakenOf<F>, AllocError>
     ensures { IfOk result (λ more. (k : ℕ) (ds : List Data) (d : Data)
         → AreTaken F.call_form F.return_form F.is_call k (Fine steps room) ds
-        → IsStepIn F.call_form F.return_form F.is_call k d (Some step) → AreTaken F.call_form F.return_form F.is_call k more (ds ++ d ∷ [])) }
+        → IsStepIn F.call_form F.return_form F.is_call k d (Some step)
+        → AreTaken F.call_form F.return_form F.is_call k more (ds ++ d ∷ [])) }
 {
     let more = step.count();
     if more > room {
@@ -89,8 +90,13 @@ fn rest_of_steps<F: StepForms>(
 {
     let mut taken = StepsTaken::Fine(Vec::new(alloc), MAX_STEPS);
     'steps: while !reader.take_end_array() {
-        let step = next_step::<F>(alloc, reader, depth, k)?;
-        taken = with_step::<F>(taken, step)?;
+        match next_step::<F>(alloc, reader, depth, k) {
+            Ok(step) => taken = with_step::<F>(taken, step)?,
+            Err(error) => {
+                drop(taken);
+                return Err(error);
+            }
+        }
     }
     Ok(taken)
 }
@@ -115,5 +121,8 @@ pub(crate) fn next_steps<F: StepForms>(
     if depth == 0 {
         return Err(TextError::NotJson);
     }
-    Ok(Some(rest_of_steps::<F>(alloc, reader, depth - 1, k)?))
+    match rest_of_steps::<F>(alloc, reader, depth - 1, k) {
+        Ok(taken) => Ok(Some(taken)),
+        Err(error) => Err(error),
+    }
 }

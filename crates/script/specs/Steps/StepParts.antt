@@ -3,22 +3,57 @@ use Rattle.std.specs.Prelude.{◌≡◌, ◌≢◌, ⊤, ℕ, ◌≤◌, List, [
 use Rattle.serde_json.specs.Data.{Data}
 use Rattle.operations.specs.Reads.{number_form}
 use Rattle.evidence.specs.Words.{word_form}
-use Rattle.world.specs.declared.step.StepOf.TheVariants.{Ask, Look, Show, Start, Take}
+use Rattle.world.specs.declared.step.StepOf.TheVariants.{Ask, Begin, End, File, Look, Put, Refute, Show, Start, Take, Work}
+use Rattle.script.specs.declared.step_argument.Argument.{Argument}
+use Rattle.script.specs.declared.step_argument.Argument.TheVariants as arguments
+use Rattle.script.specs.declared.step_argument.ArgumentKind.{ArgumentKind}
+use Rattle.script.specs.declared.step_argument.ArgumentKind.TheVariants as kinds
+use Rattle.script.specs.declared.step_argument.Plain.{Plain}
+use Rattle.script.specs.declared.step_argument.Plain.TheVariants as plains
+use Rattle.script.specs.declared.step_argument.PlainKind.TheVariants as plain_kinds
 use Rattle.script.specs.declared.step_parts.StepParts.{StepParts}
 use Rattle.script.specs.declared.step_parts.StepParts.TheVariants.{Nothing, Word, Number, Piece, Whole}
 use Rattle.script.specs.declared.step_word.StepWord.{StepWord}
 use Rattle.script.specs.declared.step_word.StepWord.TheVariants as words
 use Rattle.script.specs.declared.written_step.WrittenStep.{WrittenStep}
-use Rattle.script.specs.declared.written_step.WrittenStep.TheVariants.{Once, StartUntold}
+use Rattle.script.specs.declared.written_step.WrittenStep.TheVariants.{Looks, Once, StartUntold}
 use Rattle.script.specs.Shortened.{kept_written}
 use Rattle.script.specs.StepForm.{arguments_of, word_of, written_form, IsWritten}
 use Rattle.script.specs.StepWords.{name_of}
+use Rattle.script.specs.Steps.Arguments.{IsArgument}
 
 -- a number comes after the word
 abbrev pub TakesNumber : StepWord → Type 0
 TakesNumber words.Start = ⊥
 TakesNumber words.Take = ⊥
 TakesNumber _ = ⊤
+
+-- the kind of argument that comes after a word, and after a word and a number
+abbrev pub wanted_after_word : StepWord → Option ArgumentKind
+wanted_after_word words.Begin = Some (kinds.Plain plain_kinds.Number)
+wanted_after_word words.End = Some (kinds.Plain plain_kinds.Number)
+wanted_after_word words.Start = Some (kinds.Plain plain_kinds.Counts)
+wanted_after_word words.Look = Some (kinds.Plain plain_kinds.Number)
+wanted_after_word words.Show = Some (kinds.Plain plain_kinds.Number)
+wanted_after_word words.File = Some (kinds.Plain plain_kinds.Number)
+wanted_after_word words.Take = None
+wanted_after_word words.Work = Some (kinds.Plain plain_kinds.Number)
+wanted_after_word words.Put = Some (kinds.Plain plain_kinds.Number)
+wanted_after_word words.Refute = Some (kinds.Plain plain_kinds.Number)
+wanted_after_word words.Ask = Some (kinds.Plain plain_kinds.Number)
+
+abbrev pub wanted_after_number : StepWord → Option ArgumentKind
+wanted_after_number words.Begin = Some kinds.Call
+wanted_after_number words.End = Some kinds.Return
+wanted_after_number words.Start = None
+wanted_after_number words.Look = Some (kinds.Plain plain_kinds.Times)
+wanted_after_number words.Show = None
+wanted_after_number words.File = Some (kinds.Plain plain_kinds.Case)
+wanted_after_number words.Take = None
+wanted_after_number words.Work = Some (kinds.Plain plain_kinds.Number)
+wanted_after_number words.Put = Some (kinds.Plain plain_kinds.Number)
+wanted_after_number words.Refute = Some (kinds.Plain plain_kinds.Pattern)
+wanted_after_number words.Ask = None
 
 -- the most elements of a step with the word
 abbrev pub most_elements : StepWord → ℕ
@@ -49,24 +84,74 @@ module _ {C R : Type 0} where
   alone words.Refute = None
   alone words.Ask = None
 
-  abbrev pub with_number : StepWord → ℕ → Option (WrittenStep C R)
-  with_number words.Begin n = None
-  with_number words.End n = None
-  with_number words.Start n = None
-  with_number words.Look n = Some (Once (Look n))
-  with_number words.Show n = Some (Once (Show n))
-  with_number words.File n = None
-  with_number words.Take n = None
-  with_number words.Work n = None
-  with_number words.Put n = None
-  with_number words.Refute n = None
-  with_number words.Ask n = Some (Once (Ask n))
+  abbrev pub word_with_number : StepWord → ℕ → Option (WrittenStep C R)
+  word_with_number words.Begin n = None
+  word_with_number words.End n = None
+  word_with_number words.Start n = None
+  word_with_number words.Look n = Some (Once (Look n))
+  word_with_number words.Show n = Some (Once (Show n))
+  word_with_number words.File n = None
+  word_with_number words.Take n = None
+  word_with_number words.Work n = None
+  word_with_number words.Put n = None
+  word_with_number words.Refute n = None
+  word_with_number words.Ask n = Some (Once (Ask n))
+
+  -- the kind of argument that comes next
+  abbrev pub wanted_next : StepParts C R → Option ArgumentKind
+  wanted_next Nothing = Some (kinds.Plain plain_kinds.Word)
+  wanted_next (Word word) = wanted_after_word word
+  wanted_next (Number word n) = wanted_after_number word
+  wanted_next (Piece case session) = Some (kinds.Plain plain_kinds.Number)
+  wanted_next (Whole step) = None
+
+  -- the number after the word
+  abbrev pub number_of : StepParts C R → ℕ
+  number_of Nothing = 0
+  number_of (Word _) = 0
+  number_of (Number _ n) = n
+  number_of (Piece _ _) = 0
+  number_of (Whole _) = 0
+
+  -- what was taken, with one more number, and with one more argument that is wanted
+  abbrev pub number_after : StepWord → ℕ → ℕ → StepParts C R
+  number_after words.Begin before n = Whole (Once (Put before n))
+  number_after words.End before n = Whole (Once (Put before n))
+  number_after words.Start before n = Whole (Once (Put before n))
+  number_after words.Look before n = Whole (Once (Put before n))
+  number_after words.Show before n = Whole (Once (Put before n))
+  number_after words.File before n = Whole (Once (Put before n))
+  number_after words.Take before n = Whole (Once (Put before n))
+  number_after words.Work before n = Piece before n
+  number_after words.Put before n = Whole (Once (Put before n))
+  number_after words.Refute before n = Whole (Once (Put before n))
+  number_after words.Ask before n = Whole (Once (Put before n))
+
+  abbrev pub with_number : StepParts C R → ℕ → Option (StepParts C R)
+  with_number Nothing n = None
+  with_number (Word word) n = Some (Number word n)
+  with_number (Number word before) n = Some (number_after word before n)
+  with_number (Piece case session) n = Some (Whole (Once (Work case (record { session = session; index = n }))))
+  with_number (Whole step) n = None
+
+  abbrev pub with_plain : StepParts C R → Plain → Option (StepParts C R)
+  with_plain parts (plains.Word word) = Some (Word word)
+  with_plain parts (plains.Number n) = with_number parts n
+  with_plain parts (plains.Times times) = Some (Whole (Looks (number_of parts) times))
+  with_plain parts (plains.Counts told) = Some (Whole (Once (Start told)))
+  with_plain parts (plains.Case criterion certificate) = Some (Whole (Once (File (number_of parts) criterion certificate)))
+  with_plain parts (plains.Pattern pattern) = Some (Whole (Once (Refute (number_of parts) pattern)))
+
+  abbrev pub with_argument : StepParts C R → Argument C R → Option (StepParts C R)
+  with_argument parts (arguments.Call c) = Some (Whole (Once (Begin (number_of parts) c)))
+  with_argument parts (arguments.Return r) = Some (Whole (Once (End (number_of parts) r)))
+  with_argument parts (arguments.Plain plain) = with_plain parts plain
 
   -- the step that was taken, where no more is taken
   abbrev pub whole_of : StepParts C R → Option (WrittenStep C R)
   whole_of Nothing = None
   whole_of (Word word) = alone word
-  whole_of (Number word n) = with_number word n
+  whole_of (Number word n) = word_with_number word n
   whole_of (Piece case session) = None
   whole_of (Whole step) = Some step
 

@@ -8,5 +8,5 @@ returns-clause-read g c =
       seen.0,
       seen.1,
       read_uncut g.F.StepForms.is_call g.F.StepForms.call_form seen.0 (λ call is. g.met.F.StepForms.call_kept call) (view c.in_ok-value.value) seen.2
-          c.read_call.result c.read_call.ensures,
+          c.read_call-call.result c.read_call-call.ensures,
     )

@@ -8,5 +8,5 @@ returns-clause-read g c =
       seen.0,
       seen.1,
       any_uncut g.F.StepForms.return_form seen.0 g.met.F.StepForms.return_kept (view c.in_ok-value.value) seen.2
-          c.read_return.result c.read_return.ensures,
+          c.read_return-ret.result c.read_return-ret.ensures,
     )

@@ -20,11 +20,11 @@ returns-in-String-clause-read c =
       c.named_case.ensures,
     )
 
-pub returns : goal.returns
-returns c =
-    let found = c.in_ok-certificate_from.ensures.read in
+pub returns-in-Ok : goal.returns-in-Ok
+returns-in-Ok c =
+    let found = c.in-Ok.ensures.read in
     let none = no_text_there found.0 c.certificate_from.new.reader c.args.depth c.in_ok-token.token c.next_token.new.reader c.in_default.not-String found.1 in
-    let less = c.in_ok-certificate_from.ensures.shorter in
+    let less = c.in-Ok.ensures.shorter in
     let one = ap length c.in_ok-token.ensures.token in
     record {
       read = (found.0, rw c.in_ok-token.ensures.token found.1, c.certified_case.ensures found.0 none found.2);

@@ -1,33 +1,23 @@
-use Rattle.std.proofs.lemmas.Result.{IfOk-weaker}
-use Rattle.script.proofs.StepArguments.{all_taken, next_after, word_missing, word_taken}
+use Rattle.std.proofs.Common.{sym, ◌∙◌}
+use Rattle.script.proofs.StepArguments.{next_missing, next_taken, none_wanted}
 use Rattle.script.proofs.reading_steps.next_part.Goals as goal
 
-pub returns-in-Some-clause-read : goal.returns-in-Some-clause-read
-returns-in-Some-clause-read g c =
-    let read = rw c.in-Some.is at c.in_ok-word-in-Nothing.ensures.read in
-    (read.0, read.1, λ ds so_far. word_taken g.F.StepForms.call_form g.F.StepForms.return_form g.F.StepForms.is_call read.0 ds c.in-Some.word (rw c.in-Nothing.is at so_far) read.2)
+pub returns-in_default-clause-read : goal.returns-in_default-clause-read
+returns-in_default-clause-read g c =
+    let read = c.in_ok-pass_value.ensures.passed in
+    (read.0, read.1, λ ds so_far. none_wanted g.F.StepForms.call_form g.F.StepForms.return_form g.F.StepForms.is_call read.0 ds c.args.parts.now so_far (sym c.in_default.is ∙ c.wanted.ensures))
 
-pub returns-in-None-clause-read : goal.returns-in-None-clause-read
-returns-in-None-clause-read g c =
-    let read = rw c.in-None.is at c.in_ok-word-in-Nothing.ensures.read in
-    (read.0, read.1, λ ds so_far. word_missing g.F.StepForms.call_form g.F.StepForms.return_form g.F.StepForms.is_call read.0 ds (rw c.in-Nothing.is at so_far) read.2)
+pub returns-in-Ok-Some-clause-read : goal.returns-in-Ok-Some-clause-read
+returns-in-Ok-Some-clause-read g c =
+    let read = rw c.in-Ok-Some.field-0-is at c.in-Ok-Some.ensures.read in (
+      read.0,
+      read.1,
+      λ ds so_far.
+          rw c.with_argument.ensures
+          (next_taken g.F.StepForms.call_form g.F.StepForms.return_form g.F.StepForms.is_call read.0 ds c.args.parts.now so_far c.in-Some.kind (sym c.in-Some.is ∙ c.wanted.ensures) c.in-Ok-Some.argument read.2),
+    )
 
-pub returns-in-Word-clause-read : goal.returns-in-Word-clause-read
-returns-in-Word-clause-read g c =
-    IfOk-weaker c.after_word.result _ _
-    (λ next is. (is.0, is.1, λ ds so_far. next_after g.F.StepForms.call_form g.F.StepForms.return_form g.F.StepForms.is_call is.0 ds next _ (rw c.in-Word.is at so_far) is.2)) c.after_word.ensures.read
-
-pub returns-in-Number-clause-read : goal.returns-in-Number-clause-read
-returns-in-Number-clause-read g c =
-    IfOk-weaker c.after_number.result _ _
-    (λ next is. (is.0, is.1, λ ds so_far. let before = rw c.in-Number.is at so_far in next_after g.F.StepForms.call_form g.F.StepForms.return_form g.F.StepForms.is_call is.0 ds next _ before.1 is.2)) c.after_number.ensures.read
-
-pub returns-in-Piece-clause-read : goal.returns-in-Piece-clause-read
-returns-in-Piece-clause-read g c =
-    IfOk-weaker c.piece_of.result _ _
-    (λ next is. (is.0, is.1, λ ds so_far. next_after g.F.StepForms.call_form g.F.StepForms.return_form g.F.StepForms.is_call is.0 ds next _ (rw c.in-Piece.is at so_far) is.2)) c.piece_of.ensures.read
-
-pub returns-in_ok-pass_value-in-Whole-clause-read : goal.returns-in_ok-pass_value-in-Whole-clause-read
-returns-in_ok-pass_value-in-Whole-clause-read g c =
-    let read = c.in_ok-pass_value-in-Whole.ensures.passed in
-    (read.0, read.1, λ ds so_far. all_taken g.F.StepForms.call_form g.F.StepForms.return_form g.F.StepForms.is_call read.0 ds _ (rw c.in-Whole.is at so_far))
+pub returns-in-Ok-None-clause-read : goal.returns-in-Ok-None-clause-read
+returns-in-Ok-None-clause-read g c =
+    let read = rw c.in-Ok-None.field-0-is at c.in-Ok-None.ensures.read in
+    (read.0, read.1, λ ds so_far. next_missing g.F.StepForms.call_form g.F.StepForms.return_form g.F.StepForms.is_call read.0 ds c.args.parts.now so_far c.in-Some.kind (sym c.in-Some.is ∙ c.wanted.ensures) read.2)

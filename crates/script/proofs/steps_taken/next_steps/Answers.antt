@@ -19,18 +19,17 @@ returns-then-depth-eq0-clause-refused g c =
     let first : c.args.reader.now ≡ Token.begin_array ∷ rest = c.in_ok-token.ensures.token ∙ ap (λ t. token_of t ∷ rest) c.in-BeginArray.is in
     rw (first, c.if-depth-eq0.true) (no_list rest)
 
-pub returns-in_err-rest_of_steps-clause-refused : goal.returns-in_err-rest_of_steps-clause-refused
-returns-in_err-rest_of_steps-clause-refused g c =
+pub returns-in-Err-clause-refused : goal.returns-in-Err-clause-refused
+returns-in-Err-clause-refused g c =
     let rest = c.next_token.new.reader in
     let first : c.args.reader.now ≡ Token.begin_array ∷ rest = c.in_ok-token.ensures.token ∙ ap (λ t. token_of t ∷ rest) c.in-BeginArray.is in
     let some : 0 < c.args.depth = omega arith in
-    let p = err_from_is_err_and c.from_residual-in_err-rest_of_steps.result c.from_residual-in_err-rest_of_steps.ensures.1 in
-    rw (p.1, p.2, first) (list_refused c.args.depth rest some c.in_err-rest_of_steps.field-0.0 c.in_err-rest_of_steps.ensures.refused)
+    rw first (list_refused c.args.depth rest some c.in-Err.error c.in-Err.ensures.refused)
 
-pub returns-clause-read : goal.returns-clause-read
-returns-clause-read g c =
+pub returns-in-Ok-clause-read : goal.returns-in-Ok-clause-read
+returns-in-Ok-clause-read g c =
     let rest = c.next_token.new.reader in
     let first : c.args.reader.now ≡ Token.begin_array ∷ rest = c.in_ok-token.ensures.token ∙ ap (λ t. token_of t ∷ rest) c.in-BeginArray.is in
     let some : 0 < c.args.depth = omega arith in
-    list_if_read (Ok c.in_ok-rest_of_steps.field-0) c.args.depth c.args.reader.now rest c.rest_of_steps.new.reader first some
-    (λ taken ds. IsTakenList g.F.StepForms.call_form g.F.StepForms.return_form g.F.StepForms.is_call c.args.k (Some taken) ds) c.in_ok-rest_of_steps.ensures.read
+    list_if_read (Ok c.in-Ok.taken) c.args.depth c.args.reader.now rest c.rest_of_steps.new.reader first some
+    (λ taken ds. IsTakenList g.F.StepForms.call_form g.F.StepForms.return_form g.F.StepForms.is_call c.args.k (Some taken) ds) c.in-Ok.ensures.read

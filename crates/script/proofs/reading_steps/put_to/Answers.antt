@@ -1,7 +1,0 @@
-use Rattle.script.proofs.StepArguments.{put_taken}
-use Rattle.script.proofs.reading_steps.put_to.Goals as goal
-
-pub returns-in-Some-clause-read : goal.returns-in-Some-clause-read
-returns-in-Some-clause-read g c =
-    let read = rw c.in-Some.is at c.in_ok-verdict.ensures.read in
-    (read.0, read.1, put_taken g.F.StepForms.call_form g.F.StepForms.return_form g.F.StepForms.is_call c.args.number read.0 c.in-Some.verdict read.2)
