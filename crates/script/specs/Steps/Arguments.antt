@@ -2,7 +2,7 @@
 use Rattle.std.specs.Prelude.{◌≡◌, ◌≢◌, ℕ, ◌<◌, ◌≤◌, List, All, Option, Some, None}
 use Rattle.history.specs.declared.limits.TheConstants.{MAX_OPERATIONS}
 use Rattle.serde_json.specs.Data.{Data}
-use Rattle.operations.specs.Reads.{list_form, number_form, IsRead, IsReadWithin}
+use Rattle.operations.specs.Reads.{list_form, number_form}
 use Rattle.bad_patterns.specs.declared.pattern.Pattern.{Pattern}
 use Rattle.evidence.specs.PatternForm.{form_of as pattern_form}
 use Rattle.evidence.specs.Words.{word_form}

@@ -20,7 +20,6 @@ use Rattle.script.specs.declared.written_step.WrittenStep.TheVariants.{Looks, On
 use Rattle.script.specs.Shortened.{kept_written}
 use Rattle.script.specs.StepForm.{arguments_of, word_of, written_form, IsWritten}
 use Rattle.script.specs.StepWords.{name_of}
-use Rattle.script.specs.Steps.Arguments.{IsArgument}
 
 -- a number comes after the word
 abbrev pub TakesNumber : StepWord → Type 0
