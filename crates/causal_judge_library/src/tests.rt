@@ -25,27 +25,10 @@ impl Call {
     }
 }
 
-// A call with its input, the number of bytes of its buffer, which are dots before, and what is wanted: the status, the number of bytes that
-// the text needs, and the buffer.
+// A call, its input, the number of bytes of its buffer, which are dots before, and what is wanted: the status, the number of bytes that the
+// text needs, and the buffer.
 #[derive(Clone, Copy)]
-struct Case {
-    call: Call,
-    input: &'static str,
-    room: usize,
-    wanted: &'static str,
-}
-
-const fn case(call: Call, input: &'static str, room: usize, wanted: &'static str) -> Case {
-    Case {
-        call,
-        input,
-        room,
-        wanted,
-    }
-}
-
-// The most bytes that a buffer has here.
-const MOST: usize = 58;
+struct Case(Call, &'static str, usize, &'static str);
 
 const HISTORY: &str = r#"["memory",[[["w",0,1]],[["r",0,1]]]]"#;
 
@@ -57,27 +40,27 @@ const CLAIM: &str = r#"[["memory",[[["r",0,7]]]],"ccv",["ThinAirRead",[0,0]]]"#;
 const BAD_OPERATION: &str = r#"["memory",[[["x"]]]]"#;
 
 const ANSWERS: [Case; 4] = [
-    case(Call::Judge, HISTORY, 24, "0 22 cc yes\ncm yes\nccv yes\n.."),
-    case(Call::Check, PAIR, 16, "0 15 cc unknown 1.0\n."),
-    case(
+    Case(Call::Judge, HISTORY, 24, "0 22 cc yes\ncm yes\nccv yes\n.."),
+    Case(Call::Check, PAIR, 16, "0 15 cc unknown 1.0\n."),
+    Case(
         Call::Explain,
         HISTORY,
         58,
         "0 57 [[\"cc\",\"yes\",null],[\"cm\",\"yes\",null],[\"ccv\",\"yes\",null]]\n.",
     ),
-    case(Call::Refute, CLAIM, 20, "0 19 ccv no ThinAirRead\n."),
+    Case(Call::Refute, CLAIM, 20, "0 19 ccv no ThinAirRead\n."),
 ];
 
 const REFUSALS: [Case; 4] = [
-    case(Call::Judge, BAD_OPERATION, 16, "1 14 refused 4 0.0\n.."),
-    case(Call::Check, HISTORY, 16, "1 10 refused 2\n......"),
-    case(Call::Explain, "", 16, "1 10 refused 1\n......"),
-    case(Call::Refute, PAIR, 16, "1 10 refused 2\n......"),
+    Case(Call::Judge, BAD_OPERATION, 16, "1 14 refused 4 0.0\n.."),
+    Case(Call::Check, HISTORY, 16, "1 10 refused 2\n......"),
+    Case(Call::Explain, "", 16, "1 10 refused 1\n......"),
+    Case(Call::Refute, PAIR, 16, "1 10 refused 2\n......"),
 ];
 
 const SHORT: [Case; 2] = [
-    case(Call::Judge, HISTORY, 21, "3 22 ....................."),
-    case(Call::Judge, "", 0, "3 10 "),
+    Case(Call::Judge, HISTORY, 21, "3 22 ....................."),
+    Case(Call::Judge, "", 0, "3 10 "),
 ];
 
 #[test]
@@ -96,21 +79,17 @@ fn short_buffers_stay_as_they_were(rt: HostRuntime) -> Result<(), Fail> {
 }
 
 fn expect_cases(alloc: Global, cases: &[Case]) -> Result<(), Fail> {
-    for case in cases {
-        expect_text(shown(alloc, *case), case.wanted)?;
+    for Case(call, input, room, wanted) in cases {
+        expect_text(shown(alloc, *call, input, *room), wanted)?;
     }
     Ok(())
 }
 
-// The status of a call, the number of bytes that its text needs, and the buffer.
-fn shown(alloc: Global, case: Case) -> Result<String, AllocError> {
-    let mut buffer = [b'.'; MOST];
+// The status of a call, the number of bytes that its text needs, and its buffer of this many bytes.
+fn shown(alloc: Global, call: Call, input: &str, room: usize) -> Result<String, AllocError> {
+    let mut buffer = vec![in alloc; b'.'; room]?;
     let mut needed = 0;
-    let room = case.room.min(MOST);
-    let answer = &mut buffer[..room];
-    let status = case
-        .call
-        .make(alloc, case.input.as_bytes(), answer, &mut needed);
-    let answer = String::from_utf8_lossy(alloc, &buffer[..room])?;
+    let status = call.make(alloc, input.as_bytes(), &mut buffer, &mut needed);
+    let answer = String::from_utf8_lossy(alloc, &buffer)?;
     format!(in alloc; "{status} {needed} {answer}")
 }
