@@ -114,7 +114,7 @@ fn next_plain(
             None => Ok(None),
         },
         PlainKind::Counts => match next_told(alloc, reader, depth) {
-            Ok(Some(told)) => Ok(Some(Plain::Counts(told))),
+            Ok(Some(counts)) => Ok(Some(Plain::Counts(counts))),
             Ok(None) => Ok(None),
             Err(error) => Err(error),
         },

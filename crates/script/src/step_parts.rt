@@ -68,12 +68,13 @@ fn wanted_after_number(word: StepWord) -> Option<ArgumentKind>
     }
 }
 
-/// What was taken with one more number after a word and a number.
-fn number_after<C, R>(word: StepWord, before: usize, number: usize) -> StepParts<C, R>
+/// What was taken with one more number after a word and a number, or none where no second number is wanted.
+fn number_after<C, R>(word: StepWord, before: usize, number: usize) -> Option<StepParts<C, R>>
     ensures { result ≡ number_after word before number }
 {
     match word {
-        StepWord::Work => StepParts::Piece(before, number),
+        StepWord::Work => Some(StepParts::Piece(before, number)),
+        StepWord::Put => Some(StepParts::once(StepOf::Put(before, number))),
         StepWord::Begin
         | StepWord::End
         | StepWord::Start
@@ -81,9 +82,8 @@ fn number_after<C, R>(word: StepWord, before: usize, number: usize) -> StepParts
         | StepWord::Show
         | StepWord::File
         | StepWord::Take
-        | StepWord::Put
         | StepWord::Refute
-        | StepWord::Ask => StepParts::once(StepOf::Put(before, number)),
+        | StepWord::Ask => None,
     }
 }
 
@@ -165,7 +165,7 @@ impl<C, R> StepParts<C, R> {
     {
         match self {
             StepParts::Word(word) => Some(StepParts::Number(*word, number)),
-            StepParts::Number(word, before) => Some(number_after(*word, *before, number)),
+            StepParts::Number(word, before) => number_after(*word, *before, number),
             StepParts::Piece(case, session) => {
                 let op = OpId::at(*session, number);
                 Some(StepParts::once(StepOf::Work(*case, op)))
@@ -183,7 +183,7 @@ impl<C, R> StepParts<C, R> {
             Plain::Word(word) => Some(StepParts::Word(word)),
             Plain::Number(next) => self.with_number(next),
             Plain::Times(times) => Some(StepParts::Whole(WrittenStep::Looks(number, times))),
-            Plain::Counts(told) => Some(StepParts::once(StepOf::Start(told))),
+            Plain::Counts(counts) => Some(StepParts::once(StepOf::Start(counts))),
             Plain::Case(criterion, certificate) => {
                 Some(StepParts::once(StepOf::File(number, criterion, certificate)))
             }

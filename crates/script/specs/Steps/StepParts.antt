@@ -113,23 +113,23 @@ module _ {C R : Type 0} where
   number_of (Whole _) = 0
 
   -- what was taken, with one more number, and with one more argument that is wanted
-  abbrev pub number_after : StepWord → ℕ → ℕ → StepParts C R
-  number_after words.Begin before n = Whole (Once (Put before n))
-  number_after words.End before n = Whole (Once (Put before n))
-  number_after words.Start before n = Whole (Once (Put before n))
-  number_after words.Look before n = Whole (Once (Put before n))
-  number_after words.Show before n = Whole (Once (Put before n))
-  number_after words.File before n = Whole (Once (Put before n))
-  number_after words.Take before n = Whole (Once (Put before n))
-  number_after words.Work before n = Piece before n
-  number_after words.Put before n = Whole (Once (Put before n))
-  number_after words.Refute before n = Whole (Once (Put before n))
-  number_after words.Ask before n = Whole (Once (Put before n))
+  abbrev pub number_after : StepWord → ℕ → ℕ → Option (StepParts C R)
+  number_after words.Begin before n = None
+  number_after words.End before n = None
+  number_after words.Start before n = None
+  number_after words.Look before n = None
+  number_after words.Show before n = None
+  number_after words.File before n = None
+  number_after words.Take before n = None
+  number_after words.Work before n = Some (Piece before n)
+  number_after words.Put before n = Some (Whole (Once (Put before n)))
+  number_after words.Refute before n = None
+  number_after words.Ask before n = None
 
   abbrev pub with_number : StepParts C R → ℕ → Option (StepParts C R)
   with_number Nothing n = None
   with_number (Word word) n = Some (Number word n)
-  with_number (Number word before) n = Some (number_after word before n)
+  with_number (Number word before) n = number_after word before n
   with_number (Piece case session) n = Some (Whole (Once (Work case (record { session = session; index = n }))))
   with_number (Whole step) n = None
 
@@ -137,7 +137,7 @@ module _ {C R : Type 0} where
   with_plain parts (plains.Word word) = Some (Word word)
   with_plain parts (plains.Number n) = with_number parts n
   with_plain parts (plains.Times times) = Some (Whole (Looks (number_of parts) times))
-  with_plain parts (plains.Counts told) = Some (Whole (Once (Start told)))
+  with_plain parts (plains.Counts counts) = Some (Whole (Once (Start counts)))
   with_plain parts (plains.Case criterion certificate) = Some (Whole (Once (File (number_of parts) criterion certificate)))
   with_plain parts (plains.Pattern pattern) = Some (Whole (Once (Refute (number_of parts) pattern)))
 
