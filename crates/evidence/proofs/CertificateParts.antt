@@ -1,15 +1,11 @@
 -- The parts of a certificate, one after the other.
-use Rattle.std.proofs.Common.{◌≡◌, ℕ, ◌^◌, ◌<◌, List, [], ◌∷◌, ◌++◌, All, length, true, Option, Some, None, refl, sym, ap, ap₂, subst, ◌∙◌, arith}
+use Rattle.std.proofs.Common.{◌≡◌, ℕ, ◌^◌, ◌<◌, List, [], ◌∷◌, ◌++◌, All, length, true, Some, None, refl, sym, ap, ap₂, subst, ◌∙◌, arith}
 use Rattle.std.specs.Prelude.{◌≢◌}
 use Rattle.std.proofs.lemmas.List.{length-append}
 use Rattle.std.proofs.lemmas.Option.{same_Some}
-use Rattle.serde_json.specs.Data.{Data, null, boolean, number, string, array, object}
-use Rattle.serde_json.specs.Find.{as_str}
-use Rattle.bounded_json.specs.Cut.{cut}
-use Rattle.operations.specs.declared.history_place.HistoryPlace.TheVariants as places
+use Rattle.serde_json.specs.Data.{Data}
 use Rattle.operations.specs.Json.{elements, list}
-use Rattle.operations.specs.Laws.Json.{as_str-read, elements-list, list_from_elements}
-use Rattle.operations.specs.Places.{inside_of, limit_of}
+use Rattle.operations.specs.Laws.Json.{elements-list, list_from_elements}
 use Rattle.operations.specs.Reads.{IsRead, list_form, number_form}
 use Rattle.causal_order.specs.Vectors.{ByOperation}
 use Rattle.cert_check.specs.declared.criterion.Criterion.{Criterion}
@@ -30,23 +26,6 @@ use Rattle.evidence.specs.Steps.Parts.{AreKeptLists, AreNoParts, ArePartsOf, Are
 use Rattle.evidence.proofs.CertificateForms.{IsTakenOf, list_taken}
 
 -- ---- the word
-
-text_kept : (d : Data) → as_str (cut limit_of inside_of places.Scalar d) ≡ as_str d
-text_kept null = refl
-text_kept (boolean b) = refl
-text_kept (number n) = refl
-text_kept (string s) = refl
-text_kept (array ds) = refl
-text_kept (object ms) = refl
-
-named : (word : List ℕ) (read : Option Criterion) → IsRead name_of word read → IsRead word_form (string word) read
-named word None none = λ criterion same. let names : word ≡ name_of criterion = cc in none criterion names
-named word (Some criterion) is = ap string is
-
-pub word_read : (d v : Data) (word : List ℕ) (read : Option Criterion) → v ≡ cut limit_of inside_of places.Scalar d → Some word ≡ as_str v → IsRead name_of word read → IsRead word_form d read
-word_read d v word read kept text is =
-    let there : d ≡ string word = as_str-read d word (sym (text_kept d) ∙ ap as_str (sym kept) ∙ sym text) in
-    subst (λ (x : Data). IsRead word_form x read) (sym there) (named word read is)
 
 module _ (d : Data) (ds : List Data) (so_far : ds ≡ []) where
   pub no_word : IsRead word_form d None → (more : List Data) (c : Certificate) → IsCertificate c → ds ++ d ∷ more ≢ parts_form c

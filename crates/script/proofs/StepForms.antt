@@ -138,10 +138,6 @@ module _ {C R : Type 0} (call_form : C → Data) (return_form : R → Data) (is_
     no_file none (Once (File z criterion certificate)) good e same = none z criterion certificate good.1 same
     no_file none _ good e same = absurd cc
 
-    pub no_take : ds ≢ [] → (step : WrittenStep C R) → IsAnyWritten is_call step → word_of step ≡ words.Take → ds ≢ arguments_of call_form return_form step
-    no_take none (Once Take) good e same = none same
-    no_take none _ good e same = absurd cc
-
     pub no_work : ((c s i : ℕ) → ds ≢ number_form c ∷ number_form s ∷ number_form i ∷ [])
         → (step : WrittenStep C R) → IsAnyWritten is_call step → word_of step ≡ words.Work → ds ≢ arguments_of call_form return_form step
     no_work none (Once (Work c o)) good e same = none c o.session o.index same

@@ -1,5 +1,5 @@
 -- What is taken of the steps of a script, one after the other.
-use Rattle.std.specs.Prelude.{◌≡◌, ◌≢◌, ⊤, ℕ, ◌+◌, List, [], ◌∷◌, ◌++◌, length, map, Option, Some, None, MatchOption}
+use Rattle.std.specs.Prelude.{◌≡◌, ◌≢◌, ⊤, ℕ, ◌+◌, List, [], ◌∷◌, ◌++◌, length, map, Option, Some, None}
 use Rattle.serde_json.specs.Data.{Data}
 use Rattle.operations.specs.Json.{list}
 use Rattle.operations.specs.Reads.{number_form}
@@ -53,7 +53,3 @@ module _ {C R : Type 0} (call_form : C → Data) (return_form : R → Data) (is_
   ArePassed (passed.Sessions k) ds = (a : Data) × (ds ≡ a ∷ number_form k ∷ [])
   ArePassed (passed.Steps k taken) ds =
       (a : Data) × (cs : List Data) × (more : List Data) × (ds ≡ a ∷ number_form k ∷ list cs ∷ more) × AreTaken call_form return_form is_call k taken cs
-
-  -- one element more is passed, or these are the elements of no script
-  abbrev pub IsNextPassed : Option (Passed C R) → List Data → Data → Type 0
-  IsNextPassed next ds d = MatchOption next ((more : List Data) → AreNoScript (ds ++ d ∷ more)) (λ p. ArePassed p (ds ++ d ∷ []))
