@@ -17,7 +17,7 @@ fn answers_when_full() -> Result<(CounterRet, CounterRet), AllocError> {
 }
 
 #[test]
-fn full_counter_stays_full(rt: HostRuntime) -> Result<(), Fail> {
+fn full_counter_stays_full() -> Result<(), Fail> {
     counter_stays_full();
     answer_depends_on_its_key::<Register>();
     let full = CounterRet::Value(u64::MAX);

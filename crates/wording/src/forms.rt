@@ -1,4 +1,4 @@
-//! Texts that are made by a form: words in which `A`, `B` and `C` are the places of other texts.
+//! Texts that are made by a form: words in which `A`, `B` and `C` are the places of other texts. A form has no other capital A, B or C.
 
 use std::alloc::{AllocError, Global};
 
