@@ -116,6 +116,7 @@ PARTS = (
     Part("events", lambda given: given.of("events", "1", given.many(5_000, 50_000), *given.longer())),
     Part("million_operations", lambda given: given.of("lines", "2", "1", "--operations", given.many(0, 1_000_000)), is_long=True),
     Part("streams", lambda given: given.of("streams", "--steps", given.many(20, 50))),
+    Part("stream_calls", lambda given: given.of("stream_calls"), ("cc",)),
     Part("release", lambda given: given.of("release")),
     Part("refused_memory", lambda given: given.of("refused_memory"), ("cc",), is_long_unproved=True),
     Part(
