@@ -7,7 +7,7 @@ The rows below say which calls go wrong and how, what the program answers then, 
 `tests/cases/lines.cases` each read call gives one byte, or seven: the answers stay the same. A line is printed for each run that ends
 otherwise, and the status is 1 where there is one.
 
-A small library, which `cc` builds, stands before the calls of the C library for standard input and standard output. Without a C compiler
+A small library, which `cc` builds, takes the calls of the C library for standard input and standard output. Without a C compiler
 everything is skipped, and so is a program that `rt try` built, whose calls are its own.
 """
 
