@@ -13,6 +13,7 @@ everything is skipped, and so is a program that `rt try` built, whose calls are 
 
 import argparse
 import errno
+import json
 import os
 import pathlib
 import shutil
@@ -93,7 +94,8 @@ class Calls(NamedTuple):
 
 class Row(NamedTuple):
     """A run: its name, its words and its input, how its calls go, its status and both outputs, and how many read calls it makes, where
-    that is given. Of standard error the first lines count, as many as are given; none where it is None."""
+    that is given. Of standard error the first lines count, as many as are given; none where it is None. Where the run is cut off, the
+    output may be any beginning of what is given."""
 
     name: str
     words: list
@@ -102,6 +104,7 @@ class Row(NamedTuple):
     writes: Calls
     wanted: tuple
     many: int = None
+    is_cut_off: bool = False
 
 
 HISTORY = b'["memory",[[["r",0,7]]]]'
@@ -119,6 +122,8 @@ JUDGE, LONG, BY_LINES = ["judge"], ["judge", "--long"], ["judge", "--lines"]
 ANY, BYTES = Calls(), Calls(piece=1, later_piece=1)
 INTERRUPTED = BYTES.failing(2, 5, errno.EINTR)
 INTERRUPTED_EVER = BYTES.failing(2, EVER, errno.EINTR)
+HUNDREDS, THOUSANDS = Calls(piece=100, later_piece=100), Calls(piece=1000, later_piece=1000)
+ANSWERED = ((EMPTY, MET_LINE), (b"[]\n", b"refused 2\n"), (HISTORY + b"\n", b"cc %b; cm %b; ccv %b\n" % (KIND, KIND, KIND)))
 
 
 def read_rows():
@@ -172,6 +177,36 @@ def line_rows():
         yield Row(f"a line that takes too many reads, {workers}", words, too_long + rest, passed_over, ANY, (3, b"refused 9\n", None))
 
 
+def longest_line_rows():
+    """Lines as long as may be, and a byte longer, also without a line feed."""
+    longest = b" " * MOST_BYTES
+    for workers in (1, 4):
+        words = [*BY_LINES, f"--workers={workers}"]
+        answers = b"refused 1\n" + MET_LINE + b"refused 9\n" + MET_LINE + b"refused 9\n"
+        data = longest + b"\n" + EMPTY + longest + b" \n" + EMPTY + longest + b" "
+        yield Row(f"lines about as long as may be, {workers}", words, data, ANY, ANY, (1, answers, b""))
+
+
+def shared_rows():
+    """Many lines that workers share, also after a line that takes long, with a fault of a read or of a write."""
+    picked = [ANSWERED[i * i % 7 % 3] for i in range(3000)]
+    session = [["inc"]] * 255 + [["get", 255]]
+    slow = json.dumps(["counter", [session] * 16]).encode() + b"\n"
+    for workers in (1, 2, 3, 4):
+        words = [*BY_LINES, f"--workers={workers}"]
+        data, answers = (b"".join(it) for it in zip(*picked))
+        yield Row(f"many lines, {workers}", words, data, HUNDREDS, ANY, (1, answers, b""))
+        whole = data[:7100].count(b"\n")
+        before = b"".join(answer for _, answer in picked[:whole])
+        yield Row(f"many lines and a fault, {workers}", words, data, HUNDREDS.failing(72, EVER), ANY, (3, before, b"read fault\n"))
+        data, answers = slow + data, MET_LINE + answers
+        yield Row(f"many lines after a slow one, {workers}", words, data, ANY, ANY, (1, answers, b""))
+        for first in (1, 2, 21):
+            name = f"many lines after a slow one, failing from write {first}, {workers}"
+            writes = THOUSANDS.failing(first, EVER)
+            yield Row(name, words, data, ANY, writes, (3, answers, b"write fault\n"), is_cut_off=True)
+
+
 def table_rows():
     """The cases of judge --lines, of which each read gives one byte, or seven."""
     for case in tables.read_tables(tables.DATA):
@@ -208,6 +243,8 @@ def holds(folder, program, number, row):
         found, many = outcome(folder, program, number, row)
     except subprocess.TimeoutExpired:
         found, many = f"no end within {MOST_SECONDS} seconds", None
+    if row.is_cut_off and found and row.wanted[1].startswith(found[1]):
+        row = row._replace(wanted=(row.wanted[0], found[1], row.wanted[2]))
     is_right = found == row.wanted and row.many in (None, many)
     if not is_right:
         print(f"{row.name}: {found} after {many} reads, and not {row.wanted} after {row.many}", flush=True)
@@ -226,7 +263,7 @@ def main():
     if not shutil.which("cc") or is_unproved(program):
         print("skipped: there is no cc, or the program was not built by a gate")
         end(0, 0, 1)
-    rows = [*read_rows(), *length_rows(), *write_rows(), *line_rows(), *table_rows()]
+    rows = [*read_rows(), *length_rows(), *write_rows(), *line_rows(), *longest_line_rows(), *shared_rows(), *table_rows()]
     with tempfile.TemporaryDirectory() as room, ThreadPoolExecutor(2) as pool:
         folder = pathlib.Path(room)
         build_library(folder)

@@ -1,6 +1,6 @@
 //! Tests of calls that no table of cases can make: desks and their workers, recorders and their seals, replicas step by step, the starts of
-//! objects, parts of histories, certificates from advice, clients that run at the same time, and what is found where memory was refused
-//! before. Tests that call the engine are in `run_acceptance`.
+//! objects, parts of histories, certificates from advice, clients that run at the same time, what is found where memory was
+//! refused before, and the assertions that all tests make.
 //!
 //! The tables of `tests/cases` test what the words of a command line and an input give. Some rows here try what a contract says of every
 //! input: they fail where a contract is wrong and its body with it.
@@ -18,6 +18,8 @@ mod counters;
 mod cut_histories;
 #[cfg(test)]
 mod desks;
+#[cfg(test)]
+mod expected;
 #[cfg(test)]
 mod held_workers;
 #[cfg(test)]

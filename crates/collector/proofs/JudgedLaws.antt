@@ -1,6 +1,6 @@
--- What is said of a case file by the pieces of its certificate, by a desk, and what follows.
+-- What follows from what is said of a case file.
 use Rattle.std.proofs.Common.{◌≡◌, ℕ, refl, sym, subst, List, Option, Some, None}
-use Rattle.std.specs.Prelude.{MatchOption, IfSome, IsSome, IsSomeAnd, Result, Ok, Err, IfOk}
+use Rattle.std.specs.Prelude.{IfSome, IsSomeAnd, Result, Ok, Err, IfOk}
 use Rattle.history.specs.declared.op_id.OpId.{OpId}
 use Rattle.history.specs.History.{HistoryValue}
 use Rattle.cert_check.specs.declared.certificate.Certificate.{Certificate}
@@ -13,16 +13,13 @@ use Rattle.board.specs.declared.answer.Answer.TheVariants.{Yes, No, Unknown, Ope
 use Rattle.cert_check.specs.declared.desk_error.DeskError.{DeskError}
 use Rattle.cert_check.specs.declared.desk_error.DeskError.TheVariants.{Memory}
 use Rattle.workers.specs.Workers.{AreWorkers}
-use Rattle.collector.specs.Judgements.{IsFounded, IsJudgeError, IsKnown, IsSaidOf, IsSaidOfFile, IsUnexplainedOf}
+use Rattle.case_answers.specs.Shown.{IsSaidOfFile}
+use Rattle.collector.specs.Judgements.{IsFounded, IsJudgeError, IsKnown, IsUnexplainedOf}
 
 -- what follows from what an answer is
 pub ok-follows : {A E : Type 0} {P Q : A → Type 0} (r : Result A E) → ((a : A) → P a → Q a) → IfOk r P → IfOk r Q
 ok-follows (Ok a) follows holds = follows a holds
 ok-follows (Err e) follows holds = tt
-
-pub some-is : {A : Type 0} (o : Option A) → IsSome o → (x : A) × (o ≡ Some x)
-some-is (Some x) some = (x, refl)
-some-is None some = absurd cc
 
 -- a refusal for want of memory, where there may be so many workers
 pub memory_alone : (workers : ℕ) (e : DeskError) → AreWorkers workers → e ≡ Memory → IsJudgeError workers e
@@ -59,17 +56,6 @@ made-case_file h criterion (Some c) fits shape certificate same =
     (subst (λ (d : Certificate). criterion_of d ≡ criterion) equal fits, subst (λ (d : Certificate). HasShapeOf h d) equal shape)
 
 module _ {S C R : Type 0} (answer : S → List C → C → R) where
-  -- what is said of the certificate of a file is said of the file
-  pub said-of_file : (file : CaseRecord S C R) (said : Answer) (certificate : Certificate) → file.2 ≡ Some certificate
-      → IsSaidOf answer file.0 certificate said → IsSaidOfFile answer file said
-  said-of_file file said certificate same holds =
-      subst (λ (c : Option Certificate). MatchOption c (said ≡ Unknown None) (λ given. IsSaidOf answer file.0 given said)) (sym same) holds
-
-  -- without a certificate nothing is known
-  pub said-of_none : (file : CaseRecord S C R) → file.2 ≡ None → IsSaidOfFile answer file (Unknown None)
-  said-of_none file none =
-      subst (λ (c : Option Certificate). MatchOption c (Unknown None ≡ Unknown None) (λ given. IsSaidOf answer file.0 given (Unknown None))) (sym none) refl
-
   -- what is said of a file is founded
   module _ (law : (h : HistoryValue S C R) (c : Certificate) → HasShapeOf h c → IsExplainedThroughout answer h c → Meets answer h (criterion_of c)) where
     pub said-founded : (file : CaseRecord S C R) → IsCaseFile file → (said : Answer) → IsSaidOfFile answer file said

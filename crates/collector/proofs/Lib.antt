@@ -1,4 +1,3 @@
 pub mod DecidedLaws
 pub mod DecisionLaws
-pub mod DeskLaws
 pub mod JudgedLaws

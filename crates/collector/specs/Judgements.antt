@@ -1,5 +1,5 @@
 -- What is said of a history and a criterion, and when it is true.
-use Rattle.std.specs.Prelude.{◌≡◌, ⊤, ℕ, List, MatchOption, Some, None}
+use Rattle.std.specs.Prelude.{◌≡◌, ⊤, ℕ, List, Some, None}
 use Rattle.history.specs.declared.op_id.OpId.{OpId}
 use Rattle.history.specs.History.{HistoryValue}
 use Rattle.workers.specs.Workers.{AreWorkers}
@@ -8,7 +8,7 @@ use Rattle.cert_check.specs.declared.criterion.Criterion.{Criterion}
 use Rattle.cert_check.specs.declared.desk_error.DeskError.{DeskError}
 use Rattle.cert_check.specs.declared.desk_error.DeskError.TheVariants.{BadWorkers, Memory}
 use Rattle.cert_check.specs.Criteria.{Meets}
-use Rattle.cert_check.specs.Certificates.{CaseRecord, HasShapeOf, IsExplainedThroughout, IsFirstUnexplained, criterion_of}
+use Rattle.cert_check.specs.Certificates.{HasShapeOf, IsFirstUnexplained, criterion_of}
 use Rattle.bad_patterns.specs.declared.kind.Kind.{Kind}
 use Rattle.board.specs.declared.answer.Answer.{Answer}
 use Rattle.board.specs.declared.answer.Answer.TheVariants.{Yes, No, Unknown, Open}
@@ -18,19 +18,6 @@ module _ {S C R : Type 0} (answer : S → List C → C → R) (h : HistoryValue 
   abbrev pub IsUnexplainedOf : Criterion → OpId → Type 0
   IsUnexplainedOf criterion o =
       (certificate : Certificate) × (criterion_of certificate ≡ criterion) × HasShapeOf h certificate × IsFirstUnexplained answer h certificate o
-
-  -- what is said of a certificate: yes where every piece explains its operation, and else unknown with the first that
-  -- doesn't
-  abbrev pub IsSaidOf : Certificate → Answer → Type 0
-  IsSaidOf certificate Yes = IsExplainedThroughout answer h certificate
-  IsSaidOf certificate (No kind) = ⊥
-  IsSaidOf certificate (Unknown None) = ⊥
-  IsSaidOf certificate (Unknown (Some o)) = IsFirstUnexplained answer h certificate o
-  IsSaidOf certificate (Open n) = ⊥
-
--- what is said of a case file: what its certificate shows, and unknown where it has none
-abbrev pub IsSaidOfFile : {S C R : Type 0} → (S → List C → C → R) → CaseRecord S C R → Answer → Type 0
-IsSaidOfFile answer file said = MatchOption file.2 (said ≡ Unknown None) (λ certificate. IsSaidOf answer file.0 certificate said)
 
 -- an answer is founded: with a yes the criterion is met; a no names a kind that excludes it; unknown names an operation
 -- only where it is unexplained; and nothing is open

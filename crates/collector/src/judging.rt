@@ -4,11 +4,12 @@ ghost use Rattle.std.specs.Prelude.{◌≡◌, ◌↔◌, IfErr, IfOk, IsTrue};
 ghost use Rattle.bad_patterns.specs.declared.kind.Kind.{Kind as AnyKind};
 ghost use Rattle.cert_check.specs.Criteria.{Meets};
 ghost use Rattle.workers.specs.Workers.{AreWorkers};
-ghost use Rattle.collector.specs.Judgements.{IsFounded, IsFoundedByCertificate, IsJudgeError, IsKnown, IsSaidOfFile, IsUnexplainedOf};
+ghost use Rattle.case_answers.specs.Shown.{IsSaidOfFile};
+ghost use Rattle.collector.specs.Judgements.{IsFounded, IsFoundedByCertificate, IsJudgeError, IsKnown, IsUnexplainedOf};
 
 use crate::judged::Judged;
 use crate::making::made_file;
-use crate::working::answer_of_file;
+use case_answers::answer_of_file;
 use cert_check::laws::explained_certificates_show_their_criterion;
 use cert_check::{CaseFile, Criterion, DeskError};
 use decision::Decision;

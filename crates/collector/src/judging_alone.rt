@@ -2,9 +2,10 @@
 
 ghost use Rattle.std.specs.Prelude.{◌≡◌, IfErr, IfOk};
 ghost use Rattle.cert_check.specs.Criteria.{Meets};
-ghost use Rattle.collector.specs.Judgements.{IsFoundedByCertificate, IsSaidOfFile};
+ghost use Rattle.case_answers.specs.Shown.{IsSaidOfFile};
+ghost use Rattle.collector.specs.Judgements.{IsFoundedByCertificate};
 
-use crate::working::answer_of_pieces;
+use case_answers::answer_of_pieces;
 use cert_check::laws::explained_certificates_show_their_criterion;
 use cert_check::{CaseFile, DeskError};
 use desk::Answer;

@@ -1,8 +1,8 @@
 //! From a history to an answer: how the histories of each object are judged.
 //!
 //! [`judge`] and [`judge_with`] check the pieces in threads, and [`judge_alone_with`] starts none. [`Judged`] says
-//! what an object gives for it. It uses decision, desk, pattern_search, and certify_cc, certify_cm and certify_ccv.
-//! How pieces are shared among workers may change: callers rest on the contracts alone, and nobody trusts advice.
+//! what an object gives for it. It uses decision, case_answers, pattern_search, and certify_cc, certify_cm and certify_ccv.
+//! Callers rest on the contracts alone, and nobody trusts advice.
 #![tactic(auto)]
 
 mod as_advised;
@@ -11,7 +11,6 @@ mod judged;
 mod judging;
 mod judging_alone;
 mod making;
-mod working;
 
 pub use desk::Answer;
 pub use judged::Judged;

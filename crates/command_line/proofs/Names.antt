@@ -47,14 +47,7 @@ names-read before (name ∷ names) after adds =
 pub list-read : (list : Text) (expected : Expected) → Lists list expected → expected ≡ listed list
 list-read list expected lists = names-read expecting_nothing (parts list) expected lists
 
--- what comes of more names
-each_next : (before between : Expected) (name : Text) (names : List Text) (r : Option Expected) → AddsName before name between
-    → MatchOption r ((after : Expected) → ¬ AddEach between names after) (AddEach between names)
-    → MatchOption r ((after : Expected) → ¬ AddEach before (name ∷ names) after) (AddEach before (name ∷ names))
-each_next before between name names None adds rest = λ after each.
-    rest after (subst (λ (e : Expected). AddEach e names after) (name-read before name each.0 each.1 ∙ sym (name-read before name between adds)) each.2)
-each_next before between name names (Some after) adds rest = (between, adds, rest)
-
+-- what comes of a last name
 each_last : (before : Expected) (name : Text) (r : Option Expected)
     → MatchOption r ((after : Expected) → ¬ AddsName before name after) (AddsName before name)
     → MatchOption r ((after : Expected) → ¬ AddEach before (name ∷ []) after) (AddEach before (name ∷ []))
@@ -76,14 +69,6 @@ pub listed_last : (before : Expected) (list : Text) (r : Option Expected) → ((
 listed_last before list r none adds =
     subst (λ (names : List Text). MatchOption r ((after : Expected) → ¬ AddEach before names after) (AddEach before names))
     (sym (only_part list none)) (each_last before list r adds)
-
-pub listed_next : (before between : Expected) (list name further : Text) (r : Option Expected) → position_or_len (λ c. c == 44) list < length list
-    → name ≡ before_first (λ c. c == 44) list → further ≡ after_first (λ c. c == 44) list → AddsName before name between
-    → MatchOption r ((after : Expected) → ¬ AddEach between (parts further) after) (AddEach between (parts further))
-    → MatchOption r ((after : Expected) → ¬ AddEach before (parts list) after) (AddEach before (parts list))
-listed_next before between list name further r within first later adds rest =
-    subst (λ (names : List Text). MatchOption r ((after : Expected) → ¬ AddEach before names after) (AddEach before names))
-    (sym (first_part list name further within first later)) (each_next before between name (parts further) r adds rest)
 
 pub listed_none : (before : Expected) (list name further : Text) → position_or_len (λ c. c == 44) list < length list
     → name ≡ before_first (λ c. c == 44) list → further ≡ after_first (λ c. c == 44) list → ((after : Expected) → ¬ AddsName before name after)

@@ -1,7 +1,7 @@
 //! Assertions that many tests make, each of which is proved here once. A test that makes one by a call is proved in less than a second.
 //!
 //! It gives [`expect_same`], [`expect_ok`] and [`expect_text`], and those that name a place of a table. It uses no other crate. The tests
-//! of `acceptance`, `run_acceptance` and `causal_judge_library` use it. A new assertion that two tests make belongs here.
+//! of `acceptance` and `causal_judge_library` use it. A new assertion that two tests make belongs here.
 #![tactic(auto)]
 
 use std::fmt::Debug;

@@ -1,17 +1,15 @@
 -- The form of a list of faults nests little, and has no float: what is written of it is read back.
-use Rattle.std.proofs.Common.{◌≡◌, ◌≤◌, false, List, map, Option, Some, None, refl, arith}
+use Rattle.std.proofs.Common.{◌≡◌, ◌≤◌, false, Option, Some, None, refl, arith}
 use Rattle.serde_json.specs.Data.{depth}
 use Rattle.serde_json.specs.Read.{max_depth}
-use Rattle.serde_json.specs.View.{items_of}
-use Rattle.serde_json.specs.Written.{has_float, items_have_float}
-use Rattle.evidence.proofs.PatternDepth.{deepest, deepest-map, no_float-map}
+use Rattle.serde_json.specs.Written.{has_float}
+use Rattle.evidence.proofs.PatternDepth.{deepest-map, no_float-map}
 use Rattle.long_faults.specs.declared.counts.SessionFaults.{SessionFaults}
 use Rattle.long_faults.specs.declared.fault.Fault.{Fault}
 use Rattle.long_faults.specs.declared.fault.Fault.TheVariants.{ThinAirRead, WriteCOInitRead, WriteCORead}
 use Rattle.long_faults.specs.declared.tally.Faults.{Faults}
 use Rattle.long_faults.specs.FaultsForm.{fault_form, session_form}
 use Rattle.explanations.specs.declared.fault_lists.FaultReport.{FaultReport}
-use Rattle.explanations.specs.Explaining.{findings_form}
 use Rattle.explanations.specs.ListingFaults.{fault_report_form, list_form}
 use Rattle.explanations.proofs.FindingForms.{findings_have_no_float, shown_depth}
 

@@ -7,7 +7,7 @@ use Rattle.cert_check.specs.Certificates.{HasShapeOf}
 use Rattle.cert_check.proofs.Ranges.{explained-in_range}
 use Rattle.board.specs.declared.answer.Answer.{Answer}
 use Rattle.board.specs.declared.answer.Answer.TheVariants.{Yes, No, Unknown, Open}
-use Rattle.collector.specs.Judgements.{IsSaidOf}
+use Rattle.case_answers.specs.Shown.{IsSaidOf}
 
 module _ {S C R : Type 0} (answer : S → List C → C → R) (h : HistoryValue S C R) (is_start : S → Type 0) (fits : C → R → Bool) (limits : IsHistory is_start fits h)
     (certificate : Certificate) (shape : HasShapeOf h certificate) where

@@ -6,7 +6,7 @@ use Rattle.cert_check.specs.declared.desk_error.DeskError.{DeskError}
 use Rattle.cert_check.specs.declared.desk_error.DeskError.TheVariants.{Memory, ShapeMismatch}
 use Rattle.cert_check.specs.Certificates.{HasShapeOf}
 use Rattle.board.specs.declared.answer.Answer.{Answer}
-use Rattle.collector.specs.Judgements.{IsSaidOf}
+use Rattle.case_answers.specs.Shown.{IsSaidOf}
 use Rattle.findings.specs.Answers.{HoldsOf}
 
 -- a certificate has the shape of a history

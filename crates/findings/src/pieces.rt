@@ -4,7 +4,7 @@ ghost use Rattle.std.specs.Prelude.{◌≡◌, IfErr, IfOk, IfSome, Some};
 ghost use Rattle.cert_check.specs.CertificateForm.{IsCertificate};
 ghost use Rattle.cert_check.specs.Certificates.{HasShapeOf, criterion_of};
 ghost use Rattle.cert_check.specs.Criteria.{Meets};
-ghost use Rattle.collector.specs.Judgements.{IsSaidOf};
+ghost use Rattle.case_answers.specs.Shown.{IsSaidOf};
 ghost use Rattle.findings.specs.Answers.{IsTrueOf};
 ghost use Rattle.findings.specs.Pieces.{HasShape, IsCheckError, IsShown};
 

@@ -1,5 +1,5 @@
 use Rattle.std.proofs.Common.{subst}
-use Rattle.collector.specs.Judgements.{IsSaidOfFile}
+use Rattle.case_answers.specs.Shown.{IsSaidOfFile}
 use Rattle.findings.proofs.InRange.{said_in_range}
 use Rattle.findings.proofs.pieces.by_workers.Goals as goal
 

@@ -3,8 +3,8 @@ use Rattle.std.specs.Prelude.{MatchOption}
 use Rattle.history.specs.declared.op_id.OpId.{OpId}
 use Rattle.board.specs.declared.answer.Answer.TheVariants.{Yes, Unknown}
 use Rattle.cert_check.specs.Certificates.{IsExplainedThroughout, IsFirstUnexplained}
-use Rattle.collector.proofs.JudgedLaws.{said-of_file, some-is}
-use Rattle.collector.proofs.working.answer_of_pieces.Goals as goal
+use Rattle.case_answers.proofs.DeskLaws.{said-of_file, some-is}
+use Rattle.case_answers.proofs.pieces_at_desk.answer_of_pieces.Goals as goal
 
 pub returns-in-None-clause-said : goal.returns-in-None-clause-said
 returns-in-None-clause-said g c =

@@ -1,7 +1,7 @@
-//! What the certificate of one case shows.
+//! The pieces of a certificate, checked by threads at a desk or one by one.
 
 ghost use Rattle.std.specs.Prelude.{◌≡◌, IfErr, IfOk, IsSome};
-ghost use Rattle.collector.specs.Judgements.{IsSaidOfFile};
+ghost use Rattle.case_answers.specs.Shown.{IsSaidOfFile};
 
 use bad_patterns::Refutable;
 use cert_check::{CaseFile, DeskError, first_unexplained};
@@ -14,7 +14,13 @@ use std::thread;
 use std::thread::Threads;
 use workers::Gate;
 
-/// What the certificate of a case file shows. Workers check its pieces at a desk that is made for it alone.
+/// What the certificate of a case file shows: `Yes` where every piece explains its operation, and else `Unknown` with the first operation
+/// whose piece does not; `Unknown` with no operation where there is no certificate.
+///
+/// So many workers, threads that are started for it, take the pieces from a desk that is made for the file alone. Each of their checks
+/// is between `enter` and `leave` of the gate. The calling thread checks what they leave, and calls the gate for none of that.
+///
+/// Fails for want of memory alone, and the file is dropped in any case. The cost is that of `first_unexplained`.
 pub fn answer_of_file<O: Refutable + Send + Sync, R: Threads + Wait + Sync, G: Gate>(
     rt: &R,
     alloc: Global,
@@ -70,7 +76,7 @@ fn answer_on<
     }
 }
 
-// The same at a desk.
+/// The same at a desk.
 fn answer_at<
     O: Refutable + Send + Sync,
     K: ShelfName + Send + Sync,
@@ -132,8 +138,10 @@ fn answer_of_ticket<
     }
 }
 
-/// What the pieces of a certificate show, checked in their order.
-pub(crate) fn answer_of_pieces<O: SeqObject>(
+/// What the pieces of a certificate show, checked in their order by the calling thread.
+///
+/// Fails for want of memory alone. The cost is that of `first_unexplained`.
+pub fn answer_of_pieces<O: SeqObject>(
     alloc: Global,
     file: &CaseFile<O>,
 ) -> Result<Answer, DeskError>

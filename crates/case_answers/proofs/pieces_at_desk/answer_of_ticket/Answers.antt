@@ -1,5 +1,5 @@
-use Rattle.collector.proofs.DeskLaws.{unknown-said, yes-said}
-use Rattle.collector.proofs.working.answer_of_ticket.Goals as goal
+use Rattle.case_answers.proofs.DeskLaws.{unknown-said, yes-said}
+use Rattle.case_answers.proofs.pieces_at_desk.answer_of_ticket.Goals as goal
 
 pub returns-in-Yes-clause-said : goal.returns-in-Yes-clause-said
 returns-in-Yes-clause-said g c = yes-said g.O.SeqObject.answer g.O.Refutable.passes c.args.ticket.now.file c.in-Yes.ensures.truth
