@@ -4,11 +4,11 @@ of 100,000 lines, and texts of 67,108,864 bytes.
 
     python3 tests/large_inputs.py -- PROGRAM
 
-The script records nothing, so its sealer is done after two looks: each further look is refused, and each step has its line. In each history the
-happened-before relation of an operation has as many pairs, or a few more or fewer, as the makers of certificates keep of one that the
-causal order does not have: it is decided all the same, and `explain` says in words and as JSON whether it has a certificate of causal
-memory. Each line of a derivation holds, and one line more than there may be is one too many; so is one byte more of a text. The last
-line is `N passed, M failed`, and the status is 1 where something failed.
+The script records nothing, so its sealer is done after two looks: each further look is refused, and each step has its line. The last of as
+many steps may be bad. In each history the happened-before relation of an operation has as many pairs, or a few more or fewer, as the makers
+of certificates keep of one that the causal order does not have: it is decided all the same, and `explain` says in words and as JSON whether
+it has a certificate of causal memory. Each line of a derivation holds, and one line more than there may be is one too many; so is one byte
+more of a text. The last line is `N passed, M failed`, and the status is 1 where something failed.
 """
 
 import argparse
@@ -89,6 +89,8 @@ def cases_of_pairs(program):
 def cases(program):
     """A name and an outcome for each case."""
     yield f"each of {STEPS} steps is answered", said(program, "replay", full_script()) == (0, full_replies(), "")
+    bad_last = ["memory", 1, [["start"]] * (STEPS - 1) + [["stop"]]]
+    yield f"the last of {STEPS} steps is bad", said(program, "replay", bad_last) == (1, "", f"refused 28 {STEPS - 1}\n")
     yield from cases_of_pairs(program)
     yield f"{MOST_LINES} lines", said(program, "refute", derivation(MOST_LINES)) == (0, "cm no CyclicHB\n", "")
     yield f"{MOST_LINES} lines and one", said(program, "refute", derivation(MOST_LINES + 1)) == (1, "", "refused 23\n")
