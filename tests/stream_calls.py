@@ -179,10 +179,10 @@ def line_rows():
 
 def longest_line_rows():
     """Lines as long as may be, and a byte longer, also without a line feed."""
-    longest = b" " * MOST_BYTES
+    longest = b"[" + b" " * (MOST_BYTES - 2) + b"]"
     for workers in (1, 4):
         words = [*BY_LINES, f"--workers={workers}"]
-        answers = b"refused 1\n" + MET_LINE + b"refused 9\n" + MET_LINE + b"refused 9\n"
+        answers = b"refused 2\n" + MET_LINE + b"refused 9\n" + MET_LINE + b"refused 9\n"
         data = longest + b"\n" + EMPTY + longest + b" \n" + EMPTY + longest + b" "
         yield Row(f"lines about as long as may be, {workers}", words, data, ANY, ANY, (1, answers, b""))
 
@@ -190,8 +190,8 @@ def longest_line_rows():
 def shared_rows():
     """Many lines that workers share, also after a line that takes long, with a fault of a read or of a write."""
     picked = [ANSWERED[i * i % 7 % 3] for i in range(3000)]
-    session = [["inc"]] * 255 + [["get", 255]]
-    slow = json.dumps(["counter", [session] * 16]).encode() + b"\n"
+    session = [["push", value] for value in range(128)] + [["pop", value] for value in range(128)]
+    slow = json.dumps(["queue", [session] * 16]).encode() + b"\n"
     for workers in (1, 2, 3, 4):
         words = [*BY_LINES, f"--workers={workers}"]
         data, answers = (b"".join(it) for it in zip(*picked))
