@@ -6,7 +6,7 @@ STORES = ("causal", "lamport")
 CRITERIA = ("cc", "cm", "ccv")
 RANGES = {"--workers": range(1, 17), "--seals": range(9), "--stop": range(16), "--all": range(1, 1_000_001), "--every": range(1, 2**31)}
 WITH_VALUE = (*RANGES, "--expect")
-LENGTHS = ((), ("--long",), ("--events", "--long"))
+LENGTHS = ((), ("--long",), ("--events",), ("--events", "--long"))
 SHOWN = ((), ("--json",), ("--svg",), ("--html",), ("--all",), ("--all", "--json"), ("--all", "--html"))
 FORMS = (*((*form, *length) for form in SHOWN for length in LENGTHS),)
 FORMS = (*(tuple(sorted(form)) for form in FORMS), ("--certificates", "--json"))
@@ -52,6 +52,27 @@ def value_in(name, text):
     return criteria_in(text) if name == "--expect" else number_in(text, RANGES[name])
 
 
+def says_alone(word):
+    """Whether one word says something to a command."""
+    name, mark, text = word.partition("=")
+    if mark:
+        return name in WITH_VALUE and value_in(name, text) is not None
+    return word in STORES or any(word in options and word not in WITH_VALUE for options in OPTIONS.values())
+
+
+def names_file(words):
+    """Whether one of the words after a command names a file: it is a hyphen or begins with none, says nothing else, and is no value."""
+    left = list(words)
+    while left:
+        word = left.pop(0)
+        if says_alone(word):
+            continue
+        if word == "-" or word and not word.startswith("-"):
+            return True
+        del left[:1]
+    return False
+
+
 def said_first(command, words):
     """What the first of the words behind a command says, its value, and the words left; none where they say nothing."""
     word, *left = words
@@ -73,7 +94,7 @@ def is_whole(order):
     if order["command"] == "drive":
         return "store" in order
     if order["command"] == "judge":
-        return ("--long" in order or "--events" not in order) and ("--events" in order or "--every" not in order)
+        return "--events" in order or "--every" not in order
     return order["command"] != "explain" or tuple(sorted(set(order) - {"command", "--why"})) in FORMS
 
 

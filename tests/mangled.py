@@ -29,7 +29,7 @@ import plain_events
 import random_logs
 import reading
 import replay
-from command_words import OPTIONS, RANGES, STORES, WITH_VALUE, order_of, reads_log, with_program
+from command_words import OPTIONS, RANGES, STORES, WITH_VALUE, names_file, order_of, reads_log, with_program
 from counting import end
 from objects import DONE, KEYED, MOST_NUMBER, OBJECTS, UNKNOWN, State, operation
 from patterns import AGAINST, CRITERIA, MemoryHistory
@@ -44,7 +44,7 @@ WORDS += (b"[" * 130,)
 OPTION_WORDS = ("", "-", "--", "judge", *STORES, "--eager", "--eager=1", "--seals", "--stop=16", "--workers=0", "--speed", "9", "17")
 OPTION_WORDS += ("cc,ccv", "--json", "--certificates", "--svg", "--expect", "--expect=cc,cc", "--expect=cm,", "--expect=CC", "cc")
 OPTION_WORDS += ("--events", "--every", "--every=0", "--names", "events")
-NEEDED = (("--every", "--events"), ("--events", "--long"))
+NEEDED = (("--every", "--events"),)
 
 
 def random_history(rng):
@@ -370,6 +370,8 @@ def main():
     for _ in rounds(given):
         command = rng.choice(list(OPTIONS))
         words = random_words(rng, command)
+        while names_file(words[1:]):
+            words = random_words(rng, command)
         order, data = order_of(words), data_for(rng, command, words)
         due, found = wanted(order, data), outcome(given.program, words, data)
         seen[order["command"] if order else command, kind_of(due)] += 1

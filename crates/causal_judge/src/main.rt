@@ -1,9 +1,15 @@
-//! Judges recorded histories of replicated objects: `causal_judge COMMAND`, with the input on standard input and the
+//! Judges recorded histories of replicated objects: `causal_judge COMMAND`, with the input in files or on standard input and the
 //! answer on standard output.
 #![tactic(auto)]
 
+use judge_process::Terminals;
+use std::io::IsTerminal;
 use std::process::ExitCode;
 
 fn main(rt: HostRuntime) -> ExitCode {
-    ExitCode::from(judge_process::status_of_process(&rt))
+    let terminals = Terminals {
+        output: rt.stdout().is_terminal(),
+        error: rt.stderr().is_terminal(),
+    };
+    ExitCode::from(judge_process::status_of_process(&rt, terminals))
 }

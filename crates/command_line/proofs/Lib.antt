@@ -4,3 +4,4 @@ pub mod Names
 pub mod SettingWords
 pub mod Saying
 pub mod Additions
+pub mod Files

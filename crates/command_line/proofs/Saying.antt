@@ -1,15 +1,17 @@
 -- What the words after a command say, one by one, and the task that they give.
-use Rattle.std.proofs.Common.{◌≡◌, ◌≤◌, ◌∙◌, ◌-◌, List, [], ◌∷◌, length, map, drop, take, get_or, arith, sym, ap, subst, Option, Some, None, inl, inr, ⊎_elim, MatchOption}
+use Rattle.std.proofs.Common.{◌≡◌, ◌≤◌, ◌∙◌, ◌-◌, Bool, true, false, refl, List, [], ◌∷◌, length, map, drop, take, get_or, arith, sym, ap, subst, Option, Some, None, inl, inr, ⊎_elim, MatchOption}
 use Rattle.std.proofs.lemmas.List.{take_all}
 use Rattle.std.proofs.lemmas.Option.{same_Some}
 use Rattle.clap.specs.Words.{Text}
 use Rattle.std.specs.Prelude.{◌≢◌}
-use Rattle.command_line.specs.declared.order.Task.{Task}
+use Rattle.command_line.specs.declared.manner.Asked.{Asked}
 use Rattle.command_line.specs.declared.said.Said.{Said}
 use Rattle.command_line.specs.declared.settings.CommandName.{CommandName}
 use Rattle.command_line.specs.declared.settings.Setting.{Setting}
-use Rattle.command_line.specs.Options.{AddsAlone, AddsTogether, IsTask, Say, SaysAlone, SaysTogether, and_also, command_word, task_for, unsaid}
-use Rattle.command_line.proofs.SettingWords.{alone_once, alone_or_together, command_once, together_once}
+use Rattle.command_line.specs.declared.sight.Sight.{Sight}
+use Rattle.command_line.specs.Options.{AddsAlone, AddsTogether, IsAsked, NamesFile, Say, SaysAlone, SaysTogether, and_also, asked_for, command_word, unsaid}
+use Rattle.command_line.specs.Steps.Files.{BeginsWithNoFile, SaySame}
+use Rattle.command_line.proofs.SettingWords.{alone_once, alone_or_together, command_once, together_dashed, together_once}
 
 -- a setting is added in one way
 added_once : (before : Said) (s t : Setting) (a b : Said) → s ≡ t → and_also before s ≡ Some a → and_also before t ≡ Some b → a ≡ b
@@ -49,6 +51,15 @@ not_both : (before said after : Said) (w : Text) (words : List Text) → AddsAlo
 not_both before said after w [] adds say = say
 not_both before said after w (value ∷ words) adds say = adds_one_way before w value said say.0 adds say.1
 
+-- a file's name says nothing alone, and names no option
+pub not_alone : (before said : Said) (w : Text) → NamesFile w → AddsAlone before w said → ⊥
+not_alone before said w file adds = file.1 adds.0 adds.1
+
+pub not_named : (before after : Said) (w : Text) (words : List Text) → NamesFile w → Say before (Some w) words after → ⊥
+not_named before after w [] file say = say
+not_named before after w (value ∷ words) file say =
+    let bad : ◌≡◌ {A = Bool} true false = sym file.0 ∙ together_dashed say.1.0 w value say.1.1 in absurd (cc)
+
 -- what comes of more words
 pub say_next : (before said : Said) (w : Text) (words : List Text) (r : Option Said) → AddsAlone before w said
     → MatchOption r ((after : Said) → ¬ Say said None words after) (Say said None words)
@@ -56,16 +67,18 @@ pub say_next : (before said : Said) (w : Text) (words : List Text) (r : Option S
 say_next before said w words None adds rest = λ after say.
     ⊎_elim (λ (alone : (x : Said) × AddsAlone before w x × Say x None words after).
     rest after (subst (λ (x : Said). Say x None words after) (adds_alone_once before w alone.0 said alone.1 adds) alone.2))
-    (λ (later : Say before (Some w) words after). not_both before said after w words adds later) say
+    (⊎_elim (λ (later : Say before (Some w) words after). not_both before said after w words adds later)
+    (λ (file : NamesFile w × Say before None words after). not_alone before said w file.0 adds)) say
 say_next before said w words (Some after) adds rest = inl (said, adds, rest)
 
-pub say_later : (before : Said) (w : Text) (words : List Text) (r : Option Said) → ((after : Said) → ¬ AddsAlone before w after)
+pub say_later : (before : Said) (w : Text) (words : List Text) (r : Option Said) → ((after : Said) → ¬ AddsAlone before w after) → ¬ NamesFile w
     → MatchOption r ((after : Said) → ¬ Say before (Some w) words after) (Say before (Some w) words)
     → MatchOption r ((after : Said) → ¬ Say before None (w ∷ words) after) (Say before None (w ∷ words))
-say_later before w words None none rest = λ after say.
+say_later before w words None none no_file rest = λ after say.
     ⊎_elim (λ (alone : (x : Said) × AddsAlone before w x × Say x None words after). none alone.0 alone.1)
-    (λ (later : Say before (Some w) words after). rest after later) say
-say_later before w words (Some after) none rest = inr rest
+    (⊎_elim (λ (later : Say before (Some w) words after). rest after later)
+    (λ (file : NamesFile w × Say before None words after). no_file file.0)) say
+say_later before w words (Some after) none no_file rest = inr (inl rest)
 
 pub say_value : (before said : Said) (w value : Text) (words : List Text) (r : Option Said) → AddsTogether before w value said
     → MatchOption r ((after : Said) → ¬ Say said None words after) (Say said None words)
@@ -88,23 +101,44 @@ first_word f [] a w least first is = absurd (omega arith)
 first_word f (x ∷ xs) a w least first is =
     ap (λ v. v ∷ map f xs) (ap f (sym first) ∙ sym is) ∙ ap (λ rest. w ∷ map f rest) (sym (take_all (length (x ∷ xs) - 1) xs (omega arith)))
 
--- what comes of words, by the first of them
-pub says_next : {A : Type 0} (f : A → Text) (before said : Said) (xs : List A) (a : A) (w : Text) (r : Option Said) → 1 ≤ length xs
-    → a ≡ get_or xs 0 a → w ≡ f a → AddsAlone before w said
-    → MatchOption r ((after : Said) → ¬ Say said None (map f (without_first xs)) after) (Say said None (map f (without_first xs)))
-    → MatchOption r ((after : Said) → ¬ Say before None (map f xs) after) (Say before None (map f xs))
-says_next f before said xs a w r least first is adds rest =
-    subst (λ (words : List Text). MatchOption r ((after : Said) → ¬ Say before None words after) (Say before None words))
-    (sym (first_word f xs a w least first is)) (say_next before said w (map f (without_first xs)) r adds rest)
+-- words say what is left of them after files
+same_said : (before : Said) (words rest : List Text) (r : Option Said) → SaySame words rest
+    → MatchOption r ((after : Said) → ¬ Say before None rest after) (Say before None rest)
+    → MatchOption r ((after : Said) → ¬ Say before None words after) (Say before None words)
+same_said before words rest None same none = λ after say. none after ((same before after).0 say)
+same_said before words rest (Some after) same say = (same before after).1 say
 
-pub says_later : {A : Type 0} (f : A → Text) (before : Said) (xs : List A) (a : A) (w v : Text) (r : Option Said) → 1 ≤ length xs
+pub says_nothing : {A : Type 0} (f : A → Text) (before : Said) (words rest : List A) → length rest ≡ 0 → SaySame (map f words) (map f rest)
+    → Say before None (map f words) before
+says_nothing f before words [] none same = (same before before).1 refl
+says_nothing f before words (x ∷ xs) none same = absurd (omega arith)
+
+first_no_file : {A : Type 0} (f : A → Text) (xs : List A) (a : A) (w : Text) → 1 ≤ length xs → a ≡ get_or xs 0 a → w ≡ f a
+    → BeginsWithNoFile (map f xs) → ¬ NamesFile w
+first_no_file f [] a w least first is none = absurd (omega arith)
+first_no_file f (x ∷ xs) a w least first is none = subst (λ (v : Text). ¬ NamesFile v) (sym (is ∙ ap f first)) none
+
+-- what comes of words, by the first of them that names no file
+pub says_next : {A : Type 0} (f : A → Text) (before said : Said) (words xs : List A) (a : A) (w : Text) (r : Option Said)
+    → SaySame (map f words) (map f xs) → 1 ≤ length xs → a ≡ get_or xs 0 a → w ≡ f a → AddsAlone before w said
+    → MatchOption r ((after : Said) → ¬ Say said None (map f (without_first xs)) after) (Say said None (map f (without_first xs)))
+    → MatchOption r ((after : Said) → ¬ Say before None (map f words) after) (Say before None (map f words))
+says_next f before said words xs a w r same least first is adds rest =
+    same_said before (map f words) (map f xs) r same
+    (subst (λ (ws : List Text). MatchOption r ((after : Said) → ¬ Say before None ws after) (Say before None ws))
+    (sym (first_word f xs a w least first is)) (say_next before said w (map f (without_first xs)) r adds rest))
+
+pub says_later : {A : Type 0} (f : A → Text) (before : Said) (words xs : List A) (a : A) (w v : Text) (r : Option Said)
+    → SaySame (map f words) (map f xs) → BeginsWithNoFile (map f xs) → 1 ≤ length xs
     → a ≡ get_or xs 0 a → w ≡ f a → v ≡ f a → ((after : Said) → ¬ AddsAlone before w after)
     → MatchOption r ((after : Said) → ¬ Say before (Some v) (map f (without_first xs)) after) (Say before (Some v) (map f (without_first xs)))
-    → MatchOption r ((after : Said) → ¬ Say before None (map f xs) after) (Say before None (map f xs))
-says_later f before xs a w v r least first is also none rest =
-    subst (λ (words : List Text). MatchOption r ((after : Said) → ¬ Say before None words after) (Say before None words))
+    → MatchOption r ((after : Said) → ¬ Say before None (map f words) after) (Say before None (map f words))
+says_later f before words xs a w v r same no_file least first is also none rest =
+    same_said before (map f words) (map f xs) r same
+    (subst (λ (ws : List Text). MatchOption r ((after : Said) → ¬ Say before None ws after) (Say before None ws))
     (sym (first_word f xs a v least first also))
-    (say_later before v (map f (without_first xs)) r (subst (λ (u : Text). (after : Said) → ¬ AddsAlone before u after) (is ∙ sym also) none) rest)
+    (say_later before v (map f (without_first xs)) r (subst (λ (u : Text). (after : Said) → ¬ AddsAlone before u after) (is ∙ sym also) none)
+    (first_no_file f xs a v least first also no_file) rest))
 
 pub says_value : {A : Type 0} (f : A → Text) (before said : Said) (w value : Text) (xs : List A) (a : A) (r : Option Said) → 1 ≤ length xs
     → a ≡ get_or xs 0 a → value ≡ f a → AddsTogether before w value said
@@ -127,26 +161,32 @@ say_once before None [] a b first second = first ∙ sym second
 say_once before (Some name) [] a b first second = absurd first
 say_once before None (w ∷ words) a b (inl x) (inl y) =
     say_once y.0 None words a b (subst (λ (said : Said). Say said None words a) (adds_alone_once before w x.0 y.0 x.1 y.1) x.2) y.2
-say_once before None (w ∷ words) a b (inl x) (inr y) = absurd (not_both before x.0 b w words x.1 y)
-say_once before None (w ∷ words) a b (inr x) (inl y) = absurd (not_both before y.0 a w words y.1 x)
-say_once before None (w ∷ words) a b (inr x) (inr y) = say_once before (Some w) words a b x y
+say_once before None (w ∷ words) a b (inl x) (inr (inl y)) = absurd (not_both before x.0 b w words x.1 y)
+say_once before None (w ∷ words) a b (inl x) (inr (inr y)) = absurd (not_alone before x.0 w y.0 x.1)
+say_once before None (w ∷ words) a b (inr (inl x)) (inl y) = absurd (not_both before y.0 a w words y.1 x)
+say_once before None (w ∷ words) a b (inr (inr x)) (inl y) = absurd (not_alone before y.0 w x.0 y.1)
+say_once before None (w ∷ words) a b (inr (inl x)) (inr (inl y)) = say_once before (Some w) words a b x y
+say_once before None (w ∷ words) a b (inr (inl x)) (inr (inr y)) = absurd (not_named before a w words y.0 x)
+say_once before None (w ∷ words) a b (inr (inr x)) (inr (inl y)) = absurd (not_named before b w words x.0 y)
+say_once before None (w ∷ words) a b (inr (inr x)) (inr (inr y)) = say_once before None words a b x.1 y.1
 say_once before (Some name) (value ∷ words) a b x y =
     say_once y.0 None words a b (subst (λ (said : Said). Say said None words a) (adds_together_once before name value x.0 y.0 x.1 y.1) x.2) y.2
 
--- the task that is given
-pub task_given : (word : Text) (words : List Text) (command : CommandName) (said : Said) (r : Option Task) → word ≡ command_word command
-    → Say (unsaid command) None words said → r ≡ task_for said
-    → MatchOption r ((task : Task) → ¬ IsTask task word words) (λ task. IsTask task word words)
-task_given word words command said None is say gives = λ task asks.
+-- what is asked for
+pub task_given : (sight : Sight) (word : Text) (words : List Text) (command : CommandName) (said : Said) (r : Option Asked) → word ≡ command_word command
+    → Say (unsaid command) None words said → r ≡ asked_for sight said
+    → MatchOption r ((asked : Asked) → ¬ IsAsked sight asked word words) (λ asked. IsAsked sight asked word words)
+task_given sight word words command said None is say gives = λ asked asks.
     let same : command ≡ asks.0 = command_once command asks.0 (sym is ∙ asks.1) in
     let one : said ≡ asks.2 = say_once (unsaid asks.0) None words said asks.2 (subst (λ (c : CommandName). Say (unsaid c) None words said) same say) asks.3 in
-    let bad : None ≡ Some task = gives ∙ ap task_for one ∙ asks.4 in absurd (cc)
-task_given word words command said (Some task) is say gives = (command, is, said, say, sym gives)
+    let bad : None ≡ Some asked = gives ∙ ap (asked_for sight) one ∙ asks.4 in absurd (cc)
+task_given sight word words command said (Some asked) is say gives = (command, is, said, say, sym gives)
 
-pub nothing_said : (word : Text) (words : List Text) (command : CommandName) → word ≡ command_word command
-    → ((after : Said) → ¬ Say (unsaid command) None words after) → (task : Task) → ¬ IsTask task word words
-nothing_said word words command is none task asks =
+pub nothing_said : (sight : Sight) (word : Text) (words : List Text) (command : CommandName) → word ≡ command_word command
+    → ((after : Said) → ¬ Say (unsaid command) None words after) → (asked : Asked) → ¬ IsAsked sight asked word words
+nothing_said sight word words command is none asked asks =
     none asks.2 (subst (λ (c : CommandName). Say (unsaid c) None words asks.2) (command_once asks.0 command (sym asks.1 ∙ is)) asks.3)
 
-pub no_command : (word : Text) (words : List Text) → ((command : CommandName) → word ≢ command_word command) → (task : Task) → ¬ IsTask task word words
-no_command word words none task asks = none asks.0 asks.1
+pub no_command : (sight : Sight) (word : Text) (words : List Text) → ((command : CommandName) → word ≢ command_word command) → (asked : Asked)
+    → ¬ IsAsked sight asked word words
+no_command sight word words none asked asks = none asks.0 asks.1

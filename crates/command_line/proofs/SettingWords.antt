@@ -9,14 +9,16 @@ use Rattle.workers.specs.Workers.{AreWorkers}
 use Rattle.history.specs.declared.limits.TheConstants.{MAX_SESSIONS}
 use Rattle.command_line.specs.declared.drive.TheConstants.{MAX_SEALS}
 use Rattle.command_line.specs.declared.drive.Store.TheVariants.{Causal, Lamport}
+use Rattle.command_line.specs.declared.coloring.Coloring.{Coloring}
+use Rattle.command_line.specs.declared.coloring.Coloring.TheVariants as colorings
 use Rattle.command_line.specs.declared.expected.Expected.{Expected}
 use Rattle.command_line.specs.declared.settings.CommandName.{CommandName}
 use Rattle.command_line.specs.declared.settings.CommandName.TheVariants as commands
 use Rattle.command_line.specs.declared.settings.Setting.{Setting}
 use Rattle.command_line.specs.declared.settings.Setting.TheVariants as settings
 use Rattle.command_line.specs.Expected.{Lists}
-use Rattle.command_line.specs.Numerals.{IsEvery, IsListed, Writes}
-use Rattle.command_line.specs.Options.{SaysAlone, SaysTogether, command_word}
+use Rattle.command_line.specs.Numerals.{IsEvery, IsLeast, IsListed, Writes}
+use Rattle.command_line.specs.Options.{SaysAlone, SaysTogether, color_word, command_word, is_bare}
 use Rattle.command_line.specs.Steps.BareWords.{IsNoBareWord}
 use Rattle.command_line.proofs.Names.{list-read, listed}
 
@@ -30,12 +32,29 @@ abbrev sixth : Text → ℕ
 sixth (a ∷ b ∷ c ∷ d ∷ e ∷ f ∷ rest) = f
 sixth _ = 0
 
+-- the second letter of a word
+abbrev second : Text → ℕ
+second (a ∷ b ∷ rest) = b
+second _ = 0
+
+-- the colouring that a word names
+abbrev coloring_from : Text → Coloring
+coloring_from word =
+    if mark word == 111116097 then colorings.Auto else
+    if mark word == 97119097 then colorings.Always else colorings.Never
+
+coloring-read : (c : Coloring) → coloring_from (color_word c) ≡ c
+coloring-read colorings.Auto = refl
+coloring-read colorings.Always = refl
+coloring-read colorings.Never = refl
+
 abbrev number_in : Text → ℕ
 number_in text = digits_value 10 (without_leading_plus text)
 
 -- what a word and a value say, and the value after the equals sign in a word
 abbrev setting_of : Text → Text → Setting
 setting_of word value =
+    if second word == 111 then settings.Output else
     if mark word == 115117099 then settings.Store Causal else
     if mark word == 112109108 then settings.Store Lamport else
     if mark word == 97101045 then settings.Eager else
@@ -51,6 +70,9 @@ setting_of word value =
     if mark word == 116115045 then settings.Stop (number_in value) else
     if mark word == 108097045 then settings.All (number_in value) else
     if mark word == 97110045 then settings.Names else
+    if mark word == 117115045 then settings.Summary else
+    if mark word == 116097045 then settings.AtLeastReads (number_in value) else
+    if mark word == 111099045 then settings.Color (coloring_from value) else
     if mark word == 104119045 then settings.Why else
     if mark word == 118101045 then (if sixth word == 110 then settings.Events else settings.Every (number_in value)) else
     settings.Expect (listed value)
@@ -72,12 +94,17 @@ alone-read settings.Html w says = ap (λ v. setting_of v (value_of v)) says
 alone-read settings.Events w says = ap (λ v. setting_of v (value_of v)) says
 alone-read settings.Names w says = ap (λ v. setting_of v (value_of v)) says
 alone-read settings.Why w says = ap (λ v. setting_of v (value_of v)) says
+alone-read settings.Summary w says = ap (λ v. setting_of v (value_of v)) says
 alone-read (settings.Seals n) w says = ap (λ v. setting_of v (value_of v)) says.1 ∙ ap settings.Seals says.2.1
 alone-read (settings.Workers n) w says = ap (λ v. setting_of v (value_of v)) says.1 ∙ ap settings.Workers says.2.1
 alone-read (settings.Stop n) w says = ap (λ v. setting_of v (value_of v)) says.1 ∙ ap settings.Stop says.2.1
 alone-read (settings.All n) w says = ap (λ v. setting_of v (value_of v)) says.1 ∙ ap settings.All says.2.1
 alone-read (settings.Every n) w says = ap (λ v. setting_of v (value_of v)) says.1 ∙ ap settings.Every says.2.1
 alone-read (settings.Expect e) w says = ap (λ v. setting_of v (value_of v)) says.1 ∙ ap settings.Expect (sym (list-read says.0 e says.2))
+alone-read (settings.AtLeastReads n) w says = ap (λ v. setting_of v (value_of v)) says.1 ∙ ap settings.AtLeastReads says.2.1
+alone-read (settings.Color c) w says =
+    ap (λ v. setting_of v (value_of v)) says.1 ∙ ap (λ t. settings.Color (coloring_from t)) says.2 ∙ ap settings.Color (coloring-read c)
+alone-read settings.Output w says = ap (λ v. setting_of v (value_of v)) says.1
 
 together-read : (s : Setting) (w value : Text) → SaysTogether s w value → setting_of w value ≡ s
 together-read (settings.Seals n) w value says = ap (λ v. setting_of v value) says.0 ∙ ap settings.Seals says.1.1
@@ -86,6 +113,10 @@ together-read (settings.Stop n) w value says = ap (λ v. setting_of v value) say
 together-read (settings.All n) w value says = ap (λ v. setting_of v value) says.0 ∙ ap settings.All says.1.1
 together-read (settings.Every n) w value says = ap (λ v. setting_of v value) says.0 ∙ ap settings.Every says.1.1
 together-read (settings.Expect e) w value says = ap (λ v. setting_of v value) says.0 ∙ ap settings.Expect (sym (list-read value e says.1))
+together-read (settings.AtLeastReads n) w value says = ap (λ v. setting_of v value) says.0 ∙ ap settings.AtLeastReads says.1.1
+together-read (settings.Color c) w value says =
+    ap (λ v. setting_of v value) says.0 ∙ ap (λ t. settings.Color (coloring_from t)) says.1 ∙ ap settings.Color (coloring-read c)
+together-read settings.Output w value says = ap (λ v. setting_of v value) says
 together-read (settings.Store store) w value says = absurd says
 together-read settings.Eager w value says = absurd says
 together-read settings.Lines w value says = absurd says
@@ -98,6 +129,7 @@ together-read settings.Html w value says = absurd says
 together-read settings.Events w value says = absurd says
 together-read settings.Names w value says = absurd says
 together-read settings.Why w value says = absurd says
+together-read settings.Summary w value says = absurd says
 
 -- one word says one thing, and so do two
 pub alone_once : (s t : Setting) (w : Text) → SaysAlone s w → SaysAlone t w → s ≡ t
@@ -110,7 +142,8 @@ together_once s t w value says also = sym (together-read s w value says) ∙ tog
 abbrev names_option : Text → Bool
 names_option word =
     pointwise nat_eq (codes "--seals") word || (pointwise nat_eq (codes "--workers") word || (pointwise nat_eq (codes "--stop") word
-    || (pointwise nat_eq (codes "--expect") word || (pointwise nat_eq (codes "--all") word || pointwise nat_eq (codes "--every") word))))
+    || (pointwise nat_eq (codes "--expect") word || (pointwise nat_eq (codes "--all") word || (pointwise nat_eq (codes "--every") word
+    || (pointwise nat_eq (codes "--at-least-reads") word || (pointwise nat_eq (codes "--color") word || pointwise nat_eq (codes "-o") word)))))))
 
 alone-no-option : (s : Setting) (w : Text) → SaysAlone s w → names_option w ≡ false
 alone-no-option (settings.Store Causal) w says = ap names_option says
@@ -126,12 +159,16 @@ alone-no-option settings.Html w says = ap names_option says
 alone-no-option settings.Events w says = ap names_option says
 alone-no-option settings.Names w says = ap names_option says
 alone-no-option settings.Why w says = ap names_option says
+alone-no-option settings.Summary w says = ap names_option says
 alone-no-option (settings.Seals n) w says = ap names_option says.1
 alone-no-option (settings.Workers n) w says = ap names_option says.1
 alone-no-option (settings.Stop n) w says = ap names_option says.1
 alone-no-option (settings.Expect n) w says = ap names_option says.1
 alone-no-option (settings.All n) w says = ap names_option says.1
 alone-no-option (settings.Every n) w says = ap names_option says.1
+alone-no-option (settings.AtLeastReads n) w says = ap names_option says.1
+alone-no-option (settings.Color n) w says = ap names_option says.1
+alone-no-option settings.Output w says = ap names_option says.1
 
 together-option : (s : Setting) (w value : Text) → SaysTogether s w value → names_option w ≡ true
 together-option (settings.Seals n) w value says = ap names_option says.0
@@ -140,6 +177,9 @@ together-option (settings.Stop n) w value says = ap names_option says.0
 together-option (settings.Expect n) w value says = ap names_option says.0
 together-option (settings.All n) w value says = ap names_option says.0
 together-option (settings.Every n) w value says = ap names_option says.0
+together-option (settings.AtLeastReads n) w value says = ap names_option says.0
+together-option (settings.Color n) w value says = ap names_option says.0
+together-option settings.Output w value says = ap names_option says
 together-option (settings.Store store) w value says = absurd says
 together-option settings.Eager w value says = absurd says
 together-option settings.Lines w value says = absurd says
@@ -152,6 +192,7 @@ together-option settings.Html w value says = absurd says
 together-option settings.Events w value says = absurd says
 together-option settings.Names w value says = absurd says
 together-option settings.Why w value says = absurd says
+together-option settings.Summary w value says = absurd says
 
 pub alone_or_together : (s t : Setting) (w value : Text) → SaysAlone s w → SaysTogether t w value → ⊥
 alone_or_together s t w value says also = let bad : ◌≡◌ {A = Bool} true false = sym (together-option t w value also) ∙ alone-no-option s w says in absurd (cc)
@@ -174,6 +215,11 @@ split_alone (settings.Every n) w name value bare front later says =
     (front ∙ ap (before_first is_equals) says.1, subst (λ (t : Text). Writes t n) (sym (later ∙ ap (after_first is_equals) says.1)) says.2, says.3)
 split_alone (settings.Expect e) w name value bare front later says =
     (front ∙ ap (before_first is_equals) says.1, subst (λ (t : Text). Lists t e) (sym (later ∙ ap (after_first is_equals) says.1)) says.2)
+split_alone (settings.AtLeastReads n) w name value bare front later says =
+    (front ∙ ap (before_first is_equals) says.1, subst (λ (t : Text). Writes t n) (sym (later ∙ ap (after_first is_equals) says.1)) says.2, says.3)
+split_alone (settings.Color c) w name value bare front later says =
+    (front ∙ ap (before_first is_equals) says.1, later ∙ ap (after_first is_equals) says.1 ∙ says.2)
+split_alone settings.Output w name value bare front later says = front ∙ ap (before_first is_equals) says.1
 split_alone (settings.Store Causal) w name value bare front later says = absurd (bare.causal says)
 split_alone (settings.Store Lamport) w name value bare front later says = absurd (bare.lamport says)
 split_alone settings.Eager w name value bare front later says = absurd (bare.eager says)
@@ -187,6 +233,7 @@ split_alone settings.Html w name value bare front later says = absurd (bare.html
 split_alone settings.Events w name value bare front later says = absurd (bare.events says)
 split_alone settings.Names w name value bare front later says = absurd (bare.names says)
 split_alone settings.Why w name value bare front later says = absurd (bare.why says)
+split_alone settings.Summary w name value bare front later says = absurd (bare.summary says)
 
 joined_alone : (s : Setting) (w name value : Text) → w ≡ name ++ 61 ∷ value → SaysTogether s name value → SaysAlone s w
 joined_alone (settings.Seals n) w name value is says = (value, is ∙ ap (λ (t : Text). t ++ 61 ∷ value) says.0, says.1, says.2)
@@ -195,6 +242,9 @@ joined_alone (settings.Stop n) w name value is says = (value, is ∙ ap (λ (t :
 joined_alone (settings.All n) w name value is says = (value, is ∙ ap (λ (t : Text). t ++ 61 ∷ value) says.0, says.1, says.2)
 joined_alone (settings.Every n) w name value is says = (value, is ∙ ap (λ (t : Text). t ++ 61 ∷ value) says.0, says.1, says.2)
 joined_alone (settings.Expect e) w name value is says = (value, is ∙ ap (λ (t : Text). t ++ 61 ∷ value) says.0, says.1)
+joined_alone (settings.AtLeastReads n) w name value is says = (value, is ∙ ap (λ (t : Text). t ++ 61 ∷ value) says.0, says.1, says.2)
+joined_alone (settings.Color c) w name value is says = (value, is ∙ ap (λ (t : Text). t ++ 61 ∷ value) says.0, says.1)
+joined_alone settings.Output w name value is says = (value, is ∙ ap (λ (t : Text). t ++ 61 ∷ value) says)
 joined_alone (settings.Store store) w name value is says = absurd says
 joined_alone settings.Eager w name value is says = absurd says
 joined_alone settings.Lines w name value is says = absurd says
@@ -207,6 +257,7 @@ joined_alone settings.Html w name value is says = absurd says
 joined_alone settings.Events w name value is says = absurd says
 joined_alone settings.Names w name value is says = absurd says
 joined_alone settings.Why w name value is says = absurd says
+joined_alone settings.Summary w name value is says = absurd says
 
 pub said_by_value : (w name value : Text) (r : Option Setting) → IsNoBareWord w → w ≡ name ++ 61 ∷ value → name ≡ before_first is_equals w
     → value ≡ after_first is_equals w → MatchOption r ((s : Setting) → ¬ SaysTogether s name value) (λ s. SaysTogether s name value)
@@ -232,12 +283,16 @@ no_value w bare free settings.Html says = bare.html says
 no_value w bare free settings.Events says = bare.events says
 no_value w bare free settings.Names says = bare.names says
 no_value w bare free settings.Why says = bare.why says
+no_value w bare free settings.Summary says = bare.summary says
 no_value w bare free (settings.Seals n) says = has_equals w (codes "--seals=" ++ says.0) 7 free says.1 (omega arith) refl
 no_value w bare free (settings.Workers n) says = has_equals w (codes "--workers=" ++ says.0) 9 free says.1 (omega arith) refl
 no_value w bare free (settings.Stop n) says = has_equals w (codes "--stop=" ++ says.0) 6 free says.1 (omega arith) refl
 no_value w bare free (settings.All n) says = has_equals w (codes "--all=" ++ says.0) 5 free says.1 (omega arith) refl
 no_value w bare free (settings.Every n) says = has_equals w (codes "--every=" ++ says.0) 7 free says.1 (omega arith) refl
 no_value w bare free (settings.Expect n) says = has_equals w (codes "--expect=" ++ says.0) 8 free says.1 (omega arith) refl
+no_value w bare free (settings.AtLeastReads n) says = has_equals w (codes "--at-least-reads=" ++ says.0) 16 free says.1 (omega arith) refl
+no_value w bare free (settings.Color c) says = has_equals w (codes "--color=" ++ says.0) 7 free says.1 (omega arith) refl
+no_value w bare free settings.Output says = has_equals w (codes "-o=" ++ says.0) 2 free says.1 (omega arith) refl
 
 -- the name of an option says nothing with a value that the option does not take
 together_as : (w v value : Text) (s : Setting) → w ≡ v → SaysTogether s w value → SaysTogether (setting_of v value) w value
@@ -267,27 +322,64 @@ pub no_every_together : (w number : Text) → w ≡ codes "--every" → ((n : �
 no_every_together w number is none s says =
     let so : SaysTogether (settings.Every (number_in number)) w number = together_as w (codes "--every") number s is says in none (number_in number) so.2 so.1
 
+pub no_reads_together : (w number : Text) → w ≡ codes "--at-least-reads" → ((n : ℕ) → IsLeast n → ¬ Writes number n) → (s : Setting) → ¬ SaysTogether s w number
+no_reads_together w number is none s says =
+    let so : SaysTogether (settings.AtLeastReads (number_in number)) w number = together_as w (codes "--at-least-reads") number s is says in none (number_in number) so.2 so.1
+
+pub no_color_together : (w name : Text) → w ≡ codes "--color" → ((c : Coloring) → name ≢ color_word c) → (s : Setting) → ¬ SaysTogether s w name
+no_color_together w name is none s says =
+    let so : SaysTogether (settings.Color (coloring_from name)) w name = together_as w (codes "--color") name s is says in none (coloring_from name) so.1
+
 -- a word that is none of the names of options says nothing
 pub no_together : (w value : Text) → w ≢ codes "--seals" → w ≢ codes "--workers" → w ≢ codes "--expect" → w ≢ codes "--stop" → w ≢ codes "--all"
-    → w ≢ codes "--every" → (s : Setting) → ¬ SaysTogether s w value
-no_together w value is_no _ _ _ _ _ (settings.Seals n) says = is_no says.0
-no_together w value _ is_no _ _ _ _ (settings.Workers n) says = is_no says.0
-no_together w value _ _ _ is_no _ _ (settings.Stop n) says = is_no says.0
-no_together w value _ _ is_no _ _ _ (settings.Expect n) says = is_no says.0
-no_together w value _ _ _ _ is_no _ (settings.All n) says = is_no says.0
-no_together w value _ _ _ _ _ is_no (settings.Every n) says = is_no says.0
-no_together w value _ _ _ _ _ _ (settings.Store store) says = says
-no_together w value _ _ _ _ _ _ settings.Eager says = says
-no_together w value _ _ _ _ _ _ settings.Lines says = says
-no_together w value _ _ _ _ _ _ settings.SkipBlank says = says
-no_together w value _ _ _ _ _ _ settings.Long says = says
-no_together w value _ _ _ _ _ _ settings.Json says = says
-no_together w value _ _ _ _ _ _ settings.Certificates says = says
-no_together w value _ _ _ _ _ _ settings.Svg says = says
-no_together w value _ _ _ _ _ _ settings.Html says = says
-no_together w value _ _ _ _ _ _ settings.Events says = says
-no_together w value _ _ _ _ _ _ settings.Names says = says
-no_together w value _ _ _ _ _ _ settings.Why says = says
+    → w ≢ codes "--every" → w ≢ codes "--at-least-reads" → w ≢ codes "--color" → w ≢ codes "-o" → (s : Setting) → ¬ SaysTogether s w value
+no_together w value is_no _ _ _ _ _ _ _ _ (settings.Seals n) says = is_no says.0
+no_together w value _ is_no _ _ _ _ _ _ _ (settings.Workers n) says = is_no says.0
+no_together w value _ _ is_no _ _ _ _ _ _ (settings.Expect n) says = is_no says.0
+no_together w value _ _ _ is_no _ _ _ _ _ (settings.Stop n) says = is_no says.0
+no_together w value _ _ _ _ is_no _ _ _ _ (settings.All n) says = is_no says.0
+no_together w value _ _ _ _ _ is_no _ _ _ (settings.Every n) says = is_no says.0
+no_together w value _ _ _ _ _ _ is_no _ _ (settings.AtLeastReads n) says = is_no says.0
+no_together w value _ _ _ _ _ _ _ is_no _ (settings.Color n) says = is_no says.0
+no_together w value _ _ _ _ _ _ _ _ is_no settings.Output says = is_no says
+no_together w value _ _ _ _ _ _ _ _ _ (settings.Store store) says = says
+no_together w value _ _ _ _ _ _ _ _ _ settings.Eager says = says
+no_together w value _ _ _ _ _ _ _ _ _ settings.Lines says = says
+no_together w value _ _ _ _ _ _ _ _ _ settings.SkipBlank says = says
+no_together w value _ _ _ _ _ _ _ _ _ settings.Long says = says
+no_together w value _ _ _ _ _ _ _ _ _ settings.Json says = says
+no_together w value _ _ _ _ _ _ _ _ _ settings.Certificates says = says
+no_together w value _ _ _ _ _ _ _ _ _ settings.Svg says = says
+no_together w value _ _ _ _ _ _ _ _ _ settings.Html says = says
+no_together w value _ _ _ _ _ _ _ _ _ settings.Events says = says
+no_together w value _ _ _ _ _ _ _ _ _ settings.Names says = says
+no_together w value _ _ _ _ _ _ _ _ _ settings.Why says = says
+no_together w value _ _ _ _ _ _ _ _ _ settings.Summary says = says
+
+-- the name of an option begins with a hyphen
+pub together_dashed : (s : Setting) (w value : Text) → SaysTogether s w value → is_bare w ≡ false
+together_dashed (settings.Seals n) w value says = ap is_bare says.0
+together_dashed (settings.Workers n) w value says = ap is_bare says.0
+together_dashed (settings.Stop n) w value says = ap is_bare says.0
+together_dashed (settings.Expect n) w value says = ap is_bare says.0
+together_dashed (settings.All n) w value says = ap is_bare says.0
+together_dashed (settings.Every n) w value says = ap is_bare says.0
+together_dashed (settings.AtLeastReads n) w value says = ap is_bare says.0
+together_dashed (settings.Color n) w value says = ap is_bare says.0
+together_dashed settings.Output w value says = ap is_bare says
+together_dashed (settings.Store store) w value says = absurd says
+together_dashed settings.Eager w value says = absurd says
+together_dashed settings.Lines w value says = absurd says
+together_dashed settings.SkipBlank w value says = absurd says
+together_dashed settings.Long w value says = absurd says
+together_dashed settings.Json w value says = absurd says
+together_dashed settings.Certificates w value says = absurd says
+together_dashed settings.Svg w value says = absurd says
+together_dashed settings.Html w value says = absurd says
+together_dashed settings.Events w value says = absurd says
+together_dashed settings.Names w value says = absurd says
+together_dashed settings.Why w value says = absurd says
+together_dashed settings.Summary w value says = absurd says
 
 pub none_said : (w value : Text) (r : Option Setting) → r ≡ None → ((s : Setting) → ¬ SaysTogether s w value)
     → MatchOption r ((s : Setting) → ¬ SaysTogether s w value) (λ s. SaysTogether s w value)

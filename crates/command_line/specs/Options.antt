@@ -1,11 +1,13 @@
 -- What the words after a command say: in any order, and each at most once, what the command takes. An option and its value are two
 -- words, or one word with an equals sign between. Text is bytes.
-use Rattle.std.specs.Prelude.{◌≡◌, ◌⊎◌, ◌<◌, ◌≤◌, ◌&&◌, ◌||◌, ℕ, List, [], ◌∷◌, ◌++◌, Option, Some, None, codes, option_map, Bool, true, false, if◌then◌else◌, is_some, not, unwrap_or}
+use Rattle.std.specs.Prelude.{◌≡◌, ◌⊎◌, ◌<◌, ◌≤◌, ◌==◌, ◌&&◌, ◌||◌, ℕ, List, [], ◌∷◌, ◌++◌, Option, Some, None, codes, option_map, Bool, true, false, if◌then◌else◌, is_some, not, unwrap_or}
 use Rattle.clap.specs.Words.{Text}
 use Rattle.workers.specs.Workers.{AreWorkers}
 use Rattle.history.specs.declared.limits.TheConstants.{MAX_SESSIONS}
 use Rattle.replica.specs.declared.delivery.Delivery.{Delivery}
 use Rattle.replica.specs.declared.delivery.Delivery.TheVariants as deliveries
+use Rattle.command_line.specs.declared.coloring.Coloring.{Coloring}
+use Rattle.command_line.specs.declared.coloring.Coloring.TheVariants as colorings
 use Rattle.command_line.specs.declared.detail.Detail.{Detail}
 use Rattle.command_line.specs.declared.detail.Detail.TheVariants as details
 use Rattle.command_line.specs.declared.drive.Drive.{Drive}
@@ -27,6 +29,8 @@ use Rattle.command_line.specs.declared.log_order.LogJudging.{LogJudging}
 use Rattle.command_line.specs.declared.log_order.LogOrder.TheVariants as log_orders
 use Rattle.command_line.specs.declared.length.Length.{Length}
 use Rattle.command_line.specs.declared.length.Length.TheVariants as lengths
+use Rattle.command_line.specs.declared.manner.Asked.{Asked}
+use Rattle.command_line.specs.declared.manner.Manner.{Manner}
 use Rattle.command_line.specs.declared.order.Order.TheVariants as orders
 use Rattle.command_line.specs.declared.order.Task.{Task}
 use Rattle.command_line.specs.declared.order.Task.TheVariants.{OfInput, OfLog, OfPage}
@@ -39,8 +43,10 @@ use Rattle.command_line.specs.declared.settings.CommandName.{CommandName}
 use Rattle.command_line.specs.declared.settings.CommandName.TheVariants as commands
 use Rattle.command_line.specs.declared.settings.Setting.{Setting}
 use Rattle.command_line.specs.declared.settings.Setting.TheVariants as settings
+use Rattle.command_line.specs.declared.sight.Sight.{Sight}
+use Rattle.command_line.specs.declared.sight.Sight.TheVariants as sights
 use Rattle.command_line.specs.Expected.{Lists, expecting_nothing}
-use Rattle.command_line.specs.Numerals.{IsEvery, IsListed, Writes}
+use Rattle.command_line.specs.Numerals.{IsEvery, IsLeast, IsListed, Writes}
 
 -- the word that names a command
 abbrev pub command_word : CommandName → Text
@@ -62,6 +68,9 @@ takes commands.Judge settings.Long = true
 takes commands.Judge settings.Events = true
 takes commands.Judge (settings.Every n) = true
 takes commands.Judge settings.Why = true
+takes commands.Judge settings.Summary = true
+takes commands.Judge (settings.AtLeastReads n) = true
+takes commands.Judge (settings.Color coloring) = true
 takes commands.Check (settings.Workers n) = true
 takes commands.Check settings.Why = true
 takes commands.Explain settings.Json = true
@@ -72,6 +81,8 @@ takes commands.Explain settings.Long = true
 takes commands.Explain settings.Events = true
 takes commands.Explain (settings.All n) = true
 takes commands.Explain settings.Why = true
+takes commands.Explain settings.Output = true
+takes commands.Explain (settings.Color coloring) = true
 takes commands.Refute settings.Long = true
 takes commands.Refute settings.Why = true
 takes commands.Replay settings.Why = true
@@ -89,6 +100,12 @@ abbrev pub store_word : Store → Text
 store_word Causal = codes "causal"
 store_word Lamport = codes "lamport"
 
+-- the word that names a colouring
+abbrev pub color_word : Coloring → Text
+color_word colorings.Auto = codes "auto"
+color_word colorings.Always = codes "always"
+color_word colorings.Never = codes "never"
+
 -- one word says something
 abbrev pub SaysAlone : Setting → Text → Type 0
 SaysAlone (settings.Store store) word = word ≡ store_word store
@@ -103,12 +120,16 @@ SaysAlone settings.Html word = word ≡ codes "--html"
 SaysAlone settings.Events word = word ≡ codes "--events"
 SaysAlone settings.Names word = word ≡ codes "--names"
 SaysAlone settings.Why word = word ≡ codes "--why"
+SaysAlone settings.Summary word = word ≡ codes "--summary"
 SaysAlone (settings.Seals n) word = (number : Text) × (word ≡ codes "--seals=" ++ number) × Writes number n × (n ≤ MAX_SEALS)
 SaysAlone (settings.Workers n) word = (number : Text) × (word ≡ codes "--workers=" ++ number) × Writes number n × AreWorkers n
 SaysAlone (settings.Stop s) word = (number : Text) × (word ≡ codes "--stop=" ++ number) × Writes number s × (s < MAX_SESSIONS)
 SaysAlone (settings.All n) word = (number : Text) × (word ≡ codes "--all=" ++ number) × Writes number n × IsListed n
 SaysAlone (settings.Every n) word = (number : Text) × (word ≡ codes "--every=" ++ number) × Writes number n × IsEvery n
 SaysAlone (settings.Expect expected) word = (list : Text) × (word ≡ codes "--expect=" ++ list) × Lists list expected
+SaysAlone (settings.AtLeastReads n) word = (number : Text) × (word ≡ codes "--at-least-reads=" ++ number) × Writes number n × IsLeast n
+SaysAlone (settings.Color coloring) word = (name : Text) × (word ≡ codes "--color=" ++ name) × (name ≡ color_word coloring)
+SaysAlone settings.Output word = (file : Text) × (word ≡ codes "-o=" ++ file)
 
 -- two words say something
 abbrev pub SaysTogether : Setting → Text → Text → Type 0
@@ -118,7 +139,19 @@ SaysTogether (settings.Stop s) word number = (word ≡ codes "--stop") × Writes
 SaysTogether (settings.All n) word number = (word ≡ codes "--all") × Writes number n × IsListed n
 SaysTogether (settings.Every n) word number = (word ≡ codes "--every") × Writes number n × IsEvery n
 SaysTogether (settings.Expect expected) word list = (word ≡ codes "--expect") × Lists list expected
+SaysTogether (settings.AtLeastReads n) word number = (word ≡ codes "--at-least-reads") × Writes number n × IsLeast n
+SaysTogether (settings.Color coloring) word name = (word ≡ codes "--color") × (name ≡ color_word coloring)
+SaysTogether settings.Output word file = word ≡ codes "-o"
 SaysTogether _ word value = ⊥
+
+-- a word names a file: it is a hyphen, or begins with none, and says nothing else
+abbrev pub is_bare : Text → Bool
+is_bare [] = false
+is_bare (c ∷ []) = true
+is_bare (c ∷ d ∷ rest) = not (c == 45)
+
+abbrev pub NamesFile : Text → Type 0
+NamesFile word = (is_bare word ≡ true) × ((setting : Setting) → ¬ SaysAlone setting word)
 
 -- whether such a thing was said, and all that is said with one thing more
 abbrev pub says : Said → Setting → Bool
@@ -140,6 +173,10 @@ says said settings.Events = said.events
 says said (settings.Every n) = is_some said.every
 says said settings.Names = said.names
 says said settings.Why = said.why
+says said settings.Output = said.output
+says said settings.Summary = said.summary
+says said (settings.AtLeastReads n) = is_some said.least_reads
+says said (settings.Color coloring) = is_some said.coloring
 
 abbrev pub with_setting : Said → Setting → Said
 with_setting said (settings.Store store) = record said { store = Some store }
@@ -160,6 +197,10 @@ with_setting said settings.Events = record said { events = true }
 with_setting said (settings.Every n) = record said { every = Some n }
 with_setting said settings.Names = record said { names = true }
 with_setting said settings.Why = record said { why = true }
+with_setting said settings.Output = record said { output = true }
+with_setting said settings.Summary = record said { summary = true }
+with_setting said (settings.AtLeastReads n) = record said { least_reads = Some n }
+with_setting said (settings.Color coloring) = record said { coloring = Some coloring }
 
 -- what was said, and one thing more, which the command takes and which was not said before
 abbrev pub and_also : Said → Setting → Option Said
@@ -187,6 +228,10 @@ unsaid command = record {
   every = None;
   names = false;
   why = false;
+  output = false;
+  summary = false;
+  least_reads = None;
+  coloring = None;
 }
 
 -- one thing more is said by one word, or by two
@@ -197,12 +242,22 @@ abbrev pub AddsTogether : Said → Text → Text → Said → Type 0
 AddsTogether before word value after = (setting : Setting) × SaysTogether setting word value × (and_also before setting ≡ Some after)
 
 -- all that is said after some words, by what was said before them; if the name of an option stands before them, the first of them
--- is its value
+-- is its value. Names of files may come anywhere, and say nothing
 abbrev pub Say : Said → Option Text → List Text → Said → Type 0
 Say before None [] after = after ≡ before
 Say before (Some name) [] after = ⊥
-Say before None (word ∷ words) after = ((said : Said) × AddsAlone before word said × Say said None words after) ⊎ Say before (Some word) words after
+Say before None (word ∷ words) after =
+    ((said : Said) × AddsAlone before word said × Say said None words after) ⊎ (Say before (Some word) words after ⊎ (NamesFile word × Say before None words after))
 Say before (Some name) (value ∷ words) after = (said : Said) × AddsTogether before name value said × Say said None words after
+
+-- the files that some words name, in their order; where the name of an option stands before the words, the first of them is its value
+abbrev pub AreFiles : Bool → List Text → List Text → Type 0
+AreFiles after_name [] files = files ≡ []
+AreFiles true (value ∷ words) files = AreFiles false words files
+AreFiles false (word ∷ words) files =
+    ((setting : Setting) × SaysAlone setting word × AreFiles false words files)
+    ⊎ ((((setting : Setting) → ¬ SaysAlone setting word) × (is_bare word ≡ false) × AreFiles true words files)
+    ⊎ (NamesFile word × (later : List Text) × (files ≡ word ∷ later) × AreFiles false words later))
 
 -- by how many workers: by 2 where nothing is said
 abbrev pub workers_for : Said → ℕ
@@ -240,20 +295,24 @@ log_judging_for said = record {
 }
 
 -- one history is judged, or a log, of any length, perhaps after each so many events
-abbrev pub judge_one_of : Bool → Option ℕ → Bool → Said → Option Task
-judge_one_of false None long said = Some (OfInput (orders.Judge (judging_for said)) (detail_for said))
-judge_one_of true every true said = Some (OfLog (log_orders.Judge (log_judging_for said)))
-judge_one_of _ _ _ said = None
+abbrev pub judge_one_of : Bool → Option ℕ → Said → Option Task
+judge_one_of false None said = Some (OfInput (orders.Judge (judging_for said)) (detail_for said))
+judge_one_of true every said = Some (OfLog (log_orders.Judge (log_judging_for said)))
+judge_one_of false (Some every) said = None
 
 -- the history in each line is judged: each line has an answer of its own, and no reason is given for a refused one
 abbrev pub judge_lines_of : Bool → Option ℕ → Bool → Said → Option Task
 judge_lines_of false None false said = Some (OfInput (orders.JudgeLines (line_judging_for said)) details.Number)
 judge_lines_of _ _ _ said = None
 
+-- whether something was said that is of one history or log alone
+abbrev pub says_of_one : Said → Bool
+says_of_one said = said.why || (said.summary || is_some said.least_reads)
+
 -- lines are judged where that was said, and only then can blank ones be skipped
 abbrev pub judge_of : Bool → Bool → Said → Option Task
-judge_of true blank said = judge_lines_of said.events said.every said.why said
-judge_of false false said = judge_one_of said.events said.every said.long said
+judge_of true blank said = judge_lines_of said.events said.every (says_of_one said) said
+judge_of false false said = judge_one_of said.events said.every said
 judge_of false true said = None
 
 abbrev pub judge_for : Said → Option Task
@@ -299,16 +358,12 @@ explain_of (Some most) false long said =
     option_map (λ form. OfInput (orders.ListFaults (listing_of said most form)) (detail_for said)) (list_form_for said)
 explain_of None false true said = option_map (λ form. OfInput (orders.ExplainLong form) (detail_for said)) (long_form_for said)
 explain_of None false false said = option_map (λ form. OfInput (orders.Explain form) (detail_for said)) (form_for said)
-explain_of (Some most) true true said = option_map (λ form. OfLog (log_orders.ListFaults most form)) (list_form_for said)
-explain_of None true true said = option_map (λ form. OfLog (log_orders.Explain form)) (long_form_for said)
-explain_of _ true false said = None
+explain_of (Some most) true long said = option_map (λ form. OfLog (log_orders.ListFaults most form)) (list_form_for said)
+explain_of None true long said = option_map (λ form. OfLog (log_orders.Explain form)) (long_form_for said)
 
--- of what a page is written, by whether it is a log and of any length
-abbrev pub page_of_what : Bool → Bool → Option PageOf
-page_of_what false false = Some (pages.Input lengths.Limited)
-page_of_what false true = Some (pages.Input lengths.Any)
-page_of_what true true = Some pages.Log
-page_of_what true false = None
+-- of what a page is written, by whether it is a log
+abbrev pub page_of_what : Bool → Length → PageOf
+page_of_what events length = if events then pages.Log else pages.Input length
 
 abbrev pub page_with : Said → PageOf → Page
 page_with said of = record { most = unwrap_or said.all USUAL_LISTED; of = of }
@@ -320,7 +375,7 @@ says_form said = said.json || said.certificates || said.svg
 abbrev pub page_for : Said → Option Task
 page_for said =
     if says_form said then None
-    else option_map (λ of. OfPage (page_with said of) (detail_for said)) (page_of_what said.events said.long)
+    else Some (OfPage (page_with said (page_of_what said.events (length_for said))) (detail_for said))
 
 -- a page is written where that was said
 abbrev pub explain_for : Said → Option Task
@@ -359,8 +414,28 @@ task_to commands.Events said = Some (events_for said)
 abbrev pub task_for : Said → Option Task
 task_for said = task_to said.command said
 
--- a command's word, and the words after it, give a task
-abbrev pub IsTask : Task → Text → List Text → Type 0
-IsTask task word words =
+-- how a task is carried out
+abbrev pub manner_for : Said → Manner
+manner_for said = record {
+  to_file = said.output;
+  summary = said.summary;
+  least_reads = said.least_reads;
+  coloring = unwrap_or said.coloring colorings.Auto;
+}
+
+-- what counts as said on an input that looks so: that it is a log, or a memory history of any length, for which no certificates are
+-- made. The reason of a refusal is given then
+abbrev pub said_on : Sight → Said → Said
+said_on sights.Unseen said = said
+said_on sights.Log said = record said { events = true }
+said_on sights.Memory said = record said { long = said.long || not said.certificates; why = true }
+said_on sights.Other said = record said { why = true }
+
+abbrev pub asked_for : Sight → Said → Option Asked
+asked_for sight said = option_map (λ task. record { task = task; manner = manner_for said }) (task_for (said_on sight said))
+
+-- a command's word, and the words after it, ask for this on an input that looks so
+abbrev pub IsAsked : Sight → Asked → Text → List Text → Type 0
+IsAsked sight asked word words =
     (command : CommandName) × (word ≡ command_word command)
-    × (said : Said) × Say (unsaid command) None words said × (task_for said ≡ Some task)
+    × (said : Said) × Say (unsaid command) None words said × (asked_for sight said ≡ Some asked)

@@ -1,13 +1,14 @@
 //! The options of commands, as plain data and as `clap` receives them.
 ghost use Rattle.std.specs.Prelude.{◌≡◌, ◌-◌, codes, false};
 ghost use Rattle.clap.specs.Words.{rule_of};
-ghost use Rattle.command_line.specs.CommandLine.{all, every, expect, flag, number_option, store, why, workers};
+ghost use Rattle.command_line.specs.CommandLine.{all, color, every, expect, files, flag, least_reads, number_option, output, store, why, workers};
 ghost use Rattle.command_line.specs.Steps.Arguments.{rule_of_argument};
 
 use crate::drive::MAX_SEALS;
-use crate::help::{EVERY, WHY};
+use crate::help::{COLOR, EVERY, FILES, LEAST_READS, OUTPUT, WHY};
 use crate::listing::MAX_LISTED;
 use crate::log_order::MAX_EVERY;
+use crate::manner::MAX_LEAST_READS;
 use clap::builder::ValueParser;
 use clap::{Arg, ArgAction};
 use history::MAX_SESSIONS;
@@ -21,6 +22,12 @@ pub enum Argument<'a> {
     Store,
     /// The criteria that are expected to be met.
     Expect,
+    /// Whether lines are coloured.
+    Color,
+    /// The file that the answer goes to.
+    Output,
+    /// The files of the input.
+    Files,
     /// An option that has no value: its name, and what help says of it.
     Flag(&'a str, &'a str),
     /// An option whose value is a number: its name, the name of its value, the least and the most number, and what help says of it.
@@ -36,6 +43,9 @@ impl<'a> Argument<'a> {
         match *self {
             Argument::Store => store_argument(alloc),
             Argument::Expect => expect_option(alloc),
+            Argument::Color => color_option(alloc),
+            Argument::Output => output_option(alloc),
+            Argument::Files => files_argument(alloc),
             Argument::Flag(name, help) => flag_option(alloc, name, help),
             Argument::Number(name, value, least, most, help) => {
                 number_option(alloc, name, value, least, most, help)
@@ -110,6 +120,19 @@ pub fn every_argument<'a>() -> Argument<'a>
     Argument::Number("every", "N", 1, MAX_EVERY as u64, EVERY)
 }
 
+/// How many reads are to be answered at least.
+pub fn least_reads_argument<'a>() -> Argument<'a>
+    ensures { rule_of_argument result ≡ least_reads }
+{
+    Argument::Number(
+        "at-least-reads",
+        "N",
+        1,
+        MAX_LEAST_READS as u64,
+        LEAST_READS,
+    )
+}
+
 // The name of a store.
 fn store_argument<'a>(alloc: Global) -> Arg<'a>
     ensures rule { rule_of result ≡ store }
@@ -165,4 +188,40 @@ fn expect_option<'a>(alloc: Global) -> Arg<'a>
         .help(
             "What is to be met: some of cc, cm and ccv, joined by commas. Sets the status, as below",
         )
+}
+
+// Whether lines are coloured.
+fn color_option<'a>(alloc: Global) -> Arg<'a>
+    ensures rule { rule_of result ≡ color }
+    ensures local { result.global ≡ false }
+{
+    Arg::new(alloc, "color")
+        .long("color")
+        .value_name("WHEN")
+        .action(ArgAction::Set)
+        .help(COLOR)
+}
+
+// The file that the answer goes to.
+fn output_option<'a>(alloc: Global) -> Arg<'a>
+    ensures rule { rule_of result ≡ output }
+    ensures local { result.global ≡ false }
+{
+    Arg::new(alloc, "output")
+        .short('o')
+        .value_name("FILE")
+        .action(ArgAction::Set)
+        .help(OUTPUT)
+}
+
+// The files of the input.
+fn files_argument<'a>(alloc: Global) -> Arg<'a>
+    ensures rule { rule_of result ≡ files }
+    ensures local { result.global ≡ false }
+{
+    Arg::new(alloc, "file")
+        .value_name("FILE")
+        .action(ArgAction::Append)
+        .num_args(1..)
+        .help(FILES)
 }

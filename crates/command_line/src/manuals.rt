@@ -13,12 +13,12 @@ post:
   cm no WriteCOInitRead
   ccv no WriteCOInitRead
 
-With --long --events it is a log, with one event in each line.
+Or it is a log, with one event in each line: 'causal_judge judge run.jsonl'.
 
 Status: 0 answered, whatever the verdict; 1 the input is refused; 2 wrong words;
 3 reading or writing failed; 4 memory ran out. With --expect: 0 each criterion
 is met, 5 one is not met, 6 of one nothing is known.
-'causal_judge --help' has the forms of a history and of a log."#;
+'causal_judge help forms' has the forms of a history and of a log."#;
 
 /// Of `check`.
 pub const CHECK: &str =
@@ -47,6 +47,7 @@ words, and by these operations as a history of their own:
     0.1 reads 0 from variable 0
     0.1 follows 0.0 in its session
     0.1 read 0, the initial value of variable 0, which 0.0 had overwritten in its past.
+    This breaks read your writes.
     These operations alone are a no: ["memory",[[["w",0,1],["r",0,0]]]]
   cm no WriteCOInitRead
     as for cc
@@ -55,7 +56,7 @@ words, and by these operations as a history of their own:
 
 With --html the answer is one page to open in a browser:
 
-  $ causal_judge explain --html < run.json > run.html
+  $ causal_judge explain --html -o run.html run.json
 
 The kinds of a no:
 
@@ -63,8 +64,9 @@ The kinds of a no:
   WriteCOInitRead  a stale read: a write was lost, or is not seen yet, and the
                    read found the initial value
   WriteCORead      a stale read: it returned a value that its client knew to be
-                   overwritten. In one session these two break 'read your
-                   writes' or 'monotonic reads'.
+                   overwritten. For these two, explain says which guarantee
+                   breaks: read your writes, monotonic reads, monotonic
+                   writes, writes follow reads or causal order.
   CyclicCO         a read from the future: it returned what was written only
                    after it
   CyclicCF         replicas never agree on an order of concurrent writes
@@ -134,4 +136,4 @@ the log records, in the form that judge reads, with numbers for keys and values:
 
 Status: 0 answered; 1 a line is refused; 2 wrong words; 3 reading or writing
 failed; 4 memory ran out.
-'causal_judge --help' has the form of a log."#;
+'causal_judge help forms' has the form of a log."#;

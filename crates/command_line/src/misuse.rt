@@ -1,5 +1,6 @@
 //! What the program says of words that `clap` takes but that give no task.
 
+use crate::coloring::coloring_in;
 use crate::expected::expected_in;
 use crate::settings::setting_alone;
 use std::alloc::{AllocError, Global};
@@ -13,23 +14,18 @@ struct Misuse {
 }
 
 const EVENTS_WITH_LINES: Misuse = Misuse {
-    fault: "'--events' and '--lines' exclude one another: a log has one event a line, and stands for one history",
-    usage: "judge --long --events [OPTIONS]",
+    fault: "'--events' and '--lines' exclude one another: a line of a log is one event, and a line under '--lines' a whole history",
+    usage: "judge [--events|--lines] [OPTIONS]",
 };
 
 const EVENTS_WITH_CERTIFICATES: Misuse = Misuse {
     fault: "'--events' and '--certificates' exclude one another: no certificates are made of histories of any length",
-    usage: "explain --long --events [OPTIONS]",
-};
-
-const EVENTS_WITHOUT_LONG: Misuse = Misuse {
-    fault: "'--events' asks for '--long': the history of a log may have any length",
-    usage: "<judge|explain> --long --events [OPTIONS]",
+    usage: "explain --events [OPTIONS]",
 };
 
 const EVERY_WITHOUT_EVENTS: Misuse = Misuse {
-    fault: "'--every' asks for '--events': it counts the events of a log",
-    usage: "judge --long --events --every <N>",
+    fault: "'--every' asks for a log of events: it counts its events",
+    usage: "judge --events --every <N> [FILE]...",
 };
 
 const SKIP_BLANK_WITHOUT_LINES: Misuse = Misuse {
@@ -40,6 +36,11 @@ const SKIP_BLANK_WITHOUT_LINES: Misuse = Misuse {
 const WHY_WITH_LINES: Misuse = Misuse {
     fault: "'--why' and '--lines' exclude one another: each line is answered by one line",
     usage: "judge [--why|--lines] [OPTIONS]",
+};
+
+const COUNTS_WITH_LINES: Misuse = Misuse {
+    fault: "'--lines' excludes '--summary' and '--at-least-reads': they count one run",
+    usage: "judge [--lines|--summary] [OPTIONS]",
 };
 
 const LONG_WITH_CERTIFICATES: Misuse = Misuse {
@@ -87,6 +88,11 @@ const CERTIFICATES_WITHOUT_JSON: Misuse = Misuse {
     usage: "explain --json --certificates",
 };
 
+const STORE_NAMED: Misuse = Misuse {
+    fault: "'causal' and 'lamport' name a store, once, after 'drive': a file of that name is written './causal'",
+    usage: "<COMMAND> [OPTIONS] [FILE]...",
+};
+
 const UNEXPECTED: Misuse = Misuse {
     fault: "unexpected words, or options that don't go together",
     usage: "<COMMAND>",
@@ -103,6 +109,11 @@ fn text_of(alloc: Global, fault: &str, usage: &str) -> Result<String, AllocError
     format!(in alloc;
         "error: {fault}\n\nUsage: causal_judge {usage}\n\nFor more information, try '--help'.\n"
     )
+}
+
+/// The fault of words that give a task that can't be carried out so: what is wrong, and how the command is used.
+pub fn usage_fault(alloc: Global, fault: &str, usage: &str) -> Result<String, AllocError> {
+    text_of(alloc, fault, usage)
 }
 
 /// What the program says of words that `clap` takes but that give no task: which of them are at fault, and what was possible.
@@ -123,8 +134,14 @@ pub(crate) fn text_of_misuse<S: AsStr>(alloc: Global, words: &[S]) -> Result<Str
     {
         return text_of_list(alloc, list);
     }
+    if let Some(word) = value_after(words, "--color", "--color=")
+        && coloring_in(word).is_none()
+    {
+        return text_of_coloring(alloc, word);
+    }
     match store_of(words) {
         Some(store) => text_of_store(alloc, store),
+        None if says(words, "causal") || says(words, "lamport") => STORE_NAMED.text(alloc),
         None => UNEXPECTED.text(alloc),
     }
 }
@@ -134,6 +151,11 @@ fn text_of_list(alloc: Global, list: &str) -> Result<String, AllocError> {
         "'--expect' takes one or more of cc, cm and ccv, each once, joined by commas, and not '{list}'"
     )?;
     text_of(alloc, &fault, "judge --expect <LIST>")
+}
+
+fn text_of_coloring(alloc: Global, word: &str) -> Result<String, AllocError> {
+    let fault = format!(in alloc; "'--color' takes auto, always or never, and not '{word}'")?;
+    text_of(alloc, &fault, "<judge|explain> --color <WHEN>")
 }
 
 fn text_of_store(alloc: Global, store: &str) -> Result<String, AllocError> {
@@ -154,8 +176,6 @@ fn misuse_of_events<S: AsStr>(words: &[S]) -> Option<Misuse> {
         Some(EVENTS_WITH_LINES)
     } else if says(words, "--certificates") {
         Some(EVENTS_WITH_CERTIFICATES)
-    } else if !says(words, "--long") {
-        Some(EVENTS_WITHOUT_LONG)
     } else {
         None
     }
@@ -168,9 +188,17 @@ fn misuse_of_lines<S: AsStr>(words: &[S]) -> Option<Misuse> {
         Some(SKIP_BLANK_WITHOUT_LINES)
     } else if is_by_lines && says(words, "--why") {
         Some(WHY_WITH_LINES)
+    } else if is_by_lines && asks_of_one(words) {
+        Some(COUNTS_WITH_LINES)
     } else {
         None
     }
+}
+
+// Whether it is asked how much one run asks.
+fn asks_of_one<S: AsStr>(words: &[S]) -> bool {
+    says(words, "--summary")
+        || value_after(words, "--at-least-reads", "--at-least-reads=").is_some()
 }
 
 // What is wrong with the options for the form of an answer.
@@ -270,4 +298,9 @@ fn takes_value(word: &str) -> bool {
         "--seals" | "--workers" | "--stop" => true,
         _ => false,
     }
+}
+
+/// The file that the answer goes to: the word after `-o`, or what follows `-o=`.
+pub fn output_file<S: AsStr>(words: &[S]) -> Option<&str> {
+    value_after(words, "-o", "-o=")
 }

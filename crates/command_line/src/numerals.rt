@@ -2,11 +2,12 @@
 
 ghost use Rattle.std.specs.Prelude.{◌<◌, ◌≤◌, ℕ, MatchOption};
 ghost use Rattle.workers.specs.Workers.{AreWorkers};
-ghost use Rattle.command_line.specs.Numerals.{IsEvery, IsListed, Writes};
+ghost use Rattle.command_line.specs.Numerals.{IsEvery, IsLeast, IsListed, Writes};
 
 use crate::drive::MAX_SEALS;
 use crate::listing::MAX_LISTED;
 use crate::log_order::MAX_EVERY;
+use crate::manner::MAX_LEAST_READS;
 use history::MAX_SESSIONS;
 use workers::Workers;
 
@@ -56,6 +57,16 @@ pub fn every_in(text: &str) -> Option<u32>
 {
     match text.parse::<u32>() {
         Ok(every) if 1 <= every && every <= MAX_EVERY => Some(every),
+        _ => None,
+    }
+}
+
+/// The number of reads that are to be answered that a text writes.
+pub fn reads_in(text: &str) -> Option<u32>
+    ensures { MatchOption result ((n : ℕ) → IsLeast n → ¬ Writes text.now n) (λ n. Writes text.now n × IsLeast n) }
+{
+    match text.parse::<u32>() {
+        Ok(least) if 1 <= least && least <= MAX_LEAST_READS => Some(least),
         _ => None,
     }
 }

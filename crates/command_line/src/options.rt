@@ -1,22 +1,25 @@
 //! The words after a command.
 
 ghost use Rattle.std.specs.Prelude.{MatchOption, None, Some, map};
-ghost use Rattle.command_line.specs.Options.{AddsAlone, AddsTogether, IsTask, Say};
+ghost use Rattle.command_line.specs.Options.{AddsAlone, AddsTogether, IsAsked, Say};
 
-use crate::order::Task;
+use crate::manner::Asked;
+use crate::operands::after_files;
 use crate::said::Said;
 use crate::settings::{command_named, setting_alone, setting_together};
+use crate::sight::Sight;
 use std::convert::AsStr;
 
-/// The task that the word of a command and the words after it give. O(1): it stops at the first thing that is said twice.
+/// What the word of a command and the words after it ask for on an input that looks so. O(n) for n words that name files: it stops at
+/// the first thing that is said twice.
 #[tactic(auto, using(crate::proofs::Saying::task_given, crate::proofs::Saying::nothing_said, crate::proofs::Saying::no_command))]
-pub fn task_of<S: AsStr>(word: &str, words: &[S]) -> Option<Task>
-    ensures { MatchOption result ((task : Task) → ¬ IsTask task word.now (map S.text words.now))
-        (λ task. IsTask task word.now (map S.text words.now)) }
+pub fn asked_of<S: AsStr>(sight: Sight, word: &str, words: &[S]) -> Option<Asked>
+    ensures { MatchOption result ((asked : Asked) → ¬ IsAsked sight asked word.now (map S.text words.now))
+        (λ asked. IsAsked sight asked word.now (map S.text words.now)) }
 {
     match command_named(word) {
         Some(command) => match said_in(&Said::nothing(command), words) {
-            Some(said) => said.task(),
+            Some(said) => said.asked(sight),
             None => None,
         },
         None => None,
@@ -30,7 +33,8 @@ fn said_in<S: AsStr>(before: &Said, words: &[S]) -> Option<Said>
     ensures { MatchOption result ((after : Said) → ¬ Say before.now None (map S.text words.now) after)
         (Say before.now None (map S.text words.now)) }
 {
-    match words {
+    let rest = after_files(words);
+    match rest {
         [] => Some(*before),
         [word, later @ ..] => match said_alone(before, word.as_str()) {
             Some(said) => said_in(&said, later),

@@ -1,7 +1,7 @@
 //! The command line.
-ghost use Rattle.std.specs.Prelude.{◌≡◌, [], IfErr, IfOk, MatchOption, MatchResult, map};
+ghost use Rattle.std.specs.Prelude.{◌≡◌, ◌⊎◌, [], IfErr, IfOk, MatchOption, MatchResult, map};
 ghost use Rattle.clap.specs.Words.{HasKind, fault_of, kind_of};
-ghost use Rattle.command_line.specs.CommandLine.{GivesNoTask, IsCommandLine, IsUsageFor, IsUsageOf, command_line};
+ghost use Rattle.command_line.specs.CommandLine.{AsksForTopic, AsksNothing, IsCommandLine, IsFault, IsHelp, IsUsageFor, IsUsageOf, command_line};
 
 use crate::detail::Detail;
 use crate::drive::Drive;
@@ -11,13 +11,16 @@ use crate::length::Length;
 use crate::line_judging::LineJudging;
 use crate::listing::Listing;
 use crate::log_order::LogOrder;
+use crate::manner::Asked;
 use crate::misuse::text_of_misuse;
-use crate::options::task_of;
+use crate::options::asked_of;
 use crate::page::Page;
 use crate::program::program;
+use crate::sight::Sight;
+use crate::topics::topic_in;
 use clap::error::ErrorKind;
 use clap::{ArgMatches, Error};
-use std::alloc::Global;
+use std::alloc::{AllocError, Global};
 use std::convert::AsStr;
 use workers::Workers;
 
@@ -66,45 +69,55 @@ pub enum Usage {
     Memory,
 }
 
-/// The task that a command line gives. A command line is the program's name, the word of a command, and then what the command takes,
-/// in any order and each at most once.
+/// What a command line asks for on an input that looks so. A command line is the program's name, the word of a command, and then what the
+/// command takes, in any order and each at most once.
 ///
 /// - `judge` takes `--workers N` for a number from 1 to 16, or nothing for 2; and `--expect LIST`, where the list is one or more of
-///   `cc`, `cm` and `ccv`, each at most once, joined by commas; and `--lines`, and then `--skip-blank`; and `--long`; and with `--long`
-///   and without `--lines`, `--events`, and then `--every N` for a number from 1 to 2,147,483,647.
+///   `cc`, `cm` and `ccv`, each at most once, joined by commas; and `--lines`, and then `--skip-blank`; and `--long`; and without
+///   `--lines`, `--events`, and then `--every N` for a number from 1 to 2,147,483,647; and without `--lines`, `--summary`, and
+///   `--at-least-reads N` for such a number.
 /// - `check` takes `--workers N`.
-/// - `explain` takes nothing, `--json`, `--json` and `--certificates`, `--svg`, or `--html`. With `--long` it does not take
-///   `--certificates`, and with `--all N`, for a number from 1 to 1,000,000, neither `--certificates` nor `--svg`. With `--long` it
-///   takes `--events`.
+/// - `explain` takes nothing, `--json`, `--json` and `--certificates`, `--svg`, or `--html`. With `--long` or `--events` it does not take
+///   `--certificates`, and with `--all N`, for a number from 1 to 1,000,000, neither `--certificates` nor `--svg`. It takes `-o FILE`.
 /// - `refute` takes `--long`, and `events` takes `--names`.
 /// - `drive` takes `causal` or `lamport`, which can't be left out, `--eager`, `--seals N` for a number from 0 to 8, or nothing for 0,
 ///   `--workers N`, and `--stop S` for a number from 0 to 15.
 /// - `judge` without `--lines`, `check`, `explain`, `refute`, `replay` and `drive` take `--why`.
+/// - `judge` and `explain` take `--color WHEN`, for `auto`, `always` or `never`.
 ///
-/// An option and its value are two words, or one as in `--workers=N`.
+/// An option and its value are two words, or one as in `--workers=N`. Every command takes any number of files: words that begin with no
+/// hyphen, or are a hyphen. A file named `causal` or `lamport` is written `./causal`.
 ///
-/// Any other words give a `Usage`. It is `Help` where `clap` finds a request for help or for the version, and `Fault` for all
+/// On an input that looks like a log, `--events` counts as said; on one that looks like a memory history, `--long` does, but with
+/// `--certificates`; and on each input that was looked at, `--why`.
+///
+/// Any other words give a `Usage`. It is `Help` for `help forms` and `help refusals`, and where `clap` finds a request for help or for
+/// the version, and `Fault` for all
 /// else: an unknown command, option or further word, no command, or a number or list that is missing or that the option doesn't
 /// take. If memory ran out, it is `Memory` instead of either.
-pub fn command_of<S: AsStr>(alloc: Global, words: &[S]) -> Result<Task, Usage>
-    ensures task { MatchResult result (λ task. IsCommandLine task (map S.text words.now))
-        (λ _. GivesNoTask (map S.text words.now)) }
-    ensures usage { IfErr result (IsUsageFor (fault_of command_line (map S.text words.now))) }
+pub fn command_of<S: AsStr>(alloc: Global, words: &[S], sight: Sight) -> Result<Asked, Usage>
+    ensures asked { MatchResult result (λ asked. IsCommandLine sight asked (map S.text words.now))
+        (λ _. AsksNothing sight (map S.text words.now)) }
+    ensures usage { IfErr result (λ usage. IsUsageFor (fault_of command_line (map S.text words.now)) usage
+        ⊎ (AsksForTopic (map S.text words.now) × IsHelp usage)) }
 {
-    match task_in(words) {
-        Some(task) => Ok(task),
-        None => Err(usage_of(alloc, words)),
+    match asked_in(words, sight) {
+        Some(asked) => Ok(asked),
+        None => match topic_in(words) {
+            Some(topic) => Err(help_on(alloc, topic)),
+            None => Err(usage_of(alloc, words)),
+        },
     }
 }
 
-// The task of a command line, where it is one.
-fn task_in<S: AsStr>(words: &[S]) -> Option<Task>
-    ensures { MatchOption result (GivesNoTask (map S.text words.now)) (λ task. IsCommandLine task (map S.text words.now)) }
+/// What a command line asks for on an input that looks so, where it is one.
+pub fn asked_in<S: AsStr>(words: &[S], sight: Sight) -> Option<Asked>
+    ensures { MatchOption result (AsksNothing sight (map S.text words.now)) (λ asked. IsCommandLine sight asked (map S.text words.now)) }
 {
     let [_, word, further @ ..] = words else {
         return None;
     };
-    task_of(word.as_str(), further)
+    asked_of(sight, word.as_str(), further)
 }
 
 // What the program says of words that give no task. `clap` would take a few of them, as `judge --`.
@@ -114,6 +127,16 @@ fn usage_of<S: AsStr>(alloc: Global, words: &[S]) -> Usage
     match matches_of(alloc, words) {
         Ok(_) => fault_of_misuse(alloc, words),
         Err(error) => usage_by(alloc, &error),
+    }
+}
+
+// The help on a topic.
+fn help_on(alloc: Global, topic: &str) -> Usage
+    ensures { IsHelp result }
+{
+    match String::from_str(alloc, topic) {
+        Ok(text) => Usage::Help(text),
+        Err(_) => Usage::Memory,
     }
 }
 
@@ -145,6 +168,29 @@ fn matches_of<'a, S: AsStr>(alloc: Global, words: &'a [S]) -> Result<ArgMatches<
     program(alloc)?.try_get_matches_from(words)
 }
 
+// A fault as `clap` words it, without its advice to pass an option as a value after `--`, which no command takes.
+fn fault_without_tip(alloc: Global, text: &str) -> Usage
+    ensures { IsFault result }
+{
+    match text_without_tip(alloc, text) {
+        Ok(text) => Usage::Fault(text),
+        Err(_) => Usage::Memory,
+    }
+}
+
+fn text_without_tip(alloc: Global, text: &str) -> Result<String, AllocError> {
+    let mut kept = String::new(alloc);
+    let mut is_after_tip = false;
+    for line in text.split_inclusive('\n') {
+        let is_tip = line.starts_with("  tip: to pass '");
+        if !is_tip && !is_after_tip {
+            kept.push_str(line)?;
+        }
+        is_after_tip = is_tip;
+    }
+    Ok(kept)
+}
+
 // What the program says of an error of `clap`.
 fn usage_by(alloc: Global, error: &Error) -> Usage
     ensures { IsUsageOf (kind_of error.now) result }
@@ -152,6 +198,6 @@ fn usage_by(alloc: Global, error: &Error) -> Usage
     match (error.kind(), error.to_string(alloc)) {
         (ErrorKind::OutOfMemory, _) | (_, Err(_)) => Usage::Memory,
         (ErrorKind::DisplayHelp | ErrorKind::DisplayVersion, Ok(text)) => Usage::Help(text),
-        (_, Ok(text)) => Usage::Fault(text),
+        (_, Ok(text)) => fault_without_tip(alloc, &text),
     }
 }

@@ -6,12 +6,12 @@ ghost use Rattle.command_line.specs.CommandLine.{check, command_line, drive, eve
 ghost use Rattle.command_line.specs.Steps.Arguments.{app_named, with_argument, with_command};
 
 use crate::arguments::{
-    Argument, all_argument, every_argument, seals_argument, stop_argument, why_argument,
-    workers_argument,
+    Argument, all_argument, every_argument, least_reads_argument, seals_argument, stop_argument,
+    why_argument, workers_argument,
 };
 use crate::help::{
     ABOUT, EVENTS, EVENTS_REASON, HTML, LINES, LONG, LONG_PATTERN, LONG_REASON, MANUAL, NAMES,
-    SKIP_BLANK, VERSION,
+    SKIP_BLANK, SUMMARY, VERSION,
 };
 use crate::manuals;
 use crate::settings::CommandName;
@@ -167,7 +167,11 @@ fn judge_command<'a>(alloc: Global) -> Result<Command<'a>, AllocError>
             Argument::Flag("long", LONG),
             Argument::Flag("events", EVENTS),
             every_argument(),
+            Argument::Flag("summary", SUMMARY),
+            least_reads_argument(),
+            Argument::Color,
             why_argument(),
+            Argument::Files,
         ],
     )
 }
@@ -181,7 +185,7 @@ fn check_command<'a>(alloc: Global) -> Result<Command<'a>, AllocError>
         "check",
         "Reads a history and a certificate of it, and checks it",
         manuals::CHECK,
-        &[workers_argument(), why_argument()],
+        &[workers_argument(), why_argument(), Argument::Files],
     )
 }
 
@@ -205,7 +209,10 @@ fn explain_command<'a>(alloc: Global) -> Result<Command<'a>, AllocError>
             Argument::Flag("long", LONG_REASON),
             all_argument(),
             Argument::Flag("events", EVENTS_REASON),
+            Argument::Output,
+            Argument::Color,
             why_argument(),
+            Argument::Files,
         ],
     )
 }
@@ -219,7 +226,11 @@ fn refute_command<'a>(alloc: Global) -> Result<Command<'a>, AllocError>
         "refute",
         "Reads a history, the name of a criterion and a pattern, and checks it",
         manuals::REFUTE,
-        &[Argument::Flag("long", LONG_PATTERN), why_argument()],
+        &[
+            Argument::Flag("long", LONG_PATTERN),
+            why_argument(),
+            Argument::Files,
+        ],
     )
 }
 
@@ -232,7 +243,7 @@ fn replay_command<'a>(alloc: Global) -> Result<Command<'a>, AllocError>
         "replay",
         "Reads a script of sessions, sealers and workers, and runs it",
         manuals::REPLAY,
-        &[why_argument()],
+        &[why_argument(), Argument::Files],
     )
 }
 
@@ -245,7 +256,7 @@ fn events_command<'a>(alloc: Global) -> Result<Command<'a>, AllocError>
         "events",
         "Reads a log of events, and writes the history that it records",
         manuals::EVENTS,
-        &[Argument::Flag("names", NAMES)],
+        &[Argument::Flag("names", NAMES), Argument::Files],
     )
 }
 
@@ -268,6 +279,7 @@ fn drive_command<'a>(alloc: Global) -> Result<Command<'a>, AllocError>
             workers_argument(),
             stop_argument(),
             why_argument(),
+            Argument::Files,
         ],
     )
 }

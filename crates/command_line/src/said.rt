@@ -2,12 +2,14 @@
 
 ghost use Rattle.std.specs.Prelude.{◌≡◌, false, option_map, true};
 ghost use Rattle.command_line.specs.declared.order.Task.TheVariants.{OfInput, OfLog};
-ghost use Rattle.command_line.specs.Options.{and_also, blank_for, delivery_for, detail_for, drive_for, drive_of, events_for};
+ghost use Rattle.command_line.specs.Options.{and_also, asked_for, blank_for, delivery_for, detail_for, drive_for, drive_of, events_for};
 ghost use Rattle.command_line.specs.Options.{explain_for, explain_of, form_for, judge_for, judge_lines_of, judge_one_of, judging_for};
 ghost use Rattle.command_line.specs.Options.{length_for, line_judging_for, list_form_for, listing_of, log_judging_for, long_form_for};
-ghost use Rattle.command_line.specs.Options.{page_for, page_of_what, page_with, says, says_form, task_for, unsaid, with_setting};
+ghost use Rattle.command_line.specs.Options.{manner_for, page_for, page_of_what, page_with, said_on, says, says_form, says_of_one};
+ghost use Rattle.command_line.specs.Options.{task_for, unsaid, with_setting};
 ghost use Rattle.command_line.specs.Options.{workers_for};
 
+use crate::coloring::Coloring;
 use crate::detail::Detail;
 use crate::drive::{Drive, Store};
 use crate::expected::Expected;
@@ -17,9 +19,11 @@ use crate::length::Length;
 use crate::line_judging::{BlankLines, LineJudging};
 use crate::listing::Listing;
 use crate::log_order::{LogJudging, LogOrder};
+use crate::manner::{Asked, Manner};
 use crate::order::{Order, Task};
 use crate::page::{Page, PageOf, USUAL_LISTED};
 use crate::settings::{CommandName, Setting};
+use crate::sight::Sight;
 use replica::Delivery;
 use workers::Workers;
 
@@ -45,6 +49,10 @@ pub struct Said {
     every: Option<u32>,
     names: bool,
     why: bool,
+    output: bool,
+    summary: bool,
+    least_reads: Option<u32>,
+    coloring: Option<Coloring>,
 }
 
 impl Said {
@@ -72,6 +80,10 @@ impl Said {
             every: None,
             names: false,
             why: false,
+            output: false,
+            summary: false,
+            least_reads: None,
+            coloring: None,
         }
     }
 
@@ -109,6 +121,10 @@ impl Said {
             Setting::Every(_) => self.every.is_some(),
             Setting::Names => self.names,
             Setting::Why => self.why,
+            Setting::Output => self.output,
+            Setting::Summary => self.summary,
+            Setting::AtLeastReads(_) => self.least_reads.is_some(),
+            Setting::Color(_) => self.coloring.is_some(),
         }
     }
 
@@ -136,12 +152,57 @@ impl Said {
             Setting::Every(events) => said.every = Some(*events),
             Setting::Names => said.names = true,
             Setting::Why => said.why = true,
+            Setting::Output => said.output = true,
+            Setting::Summary => said.summary = true,
+            Setting::AtLeastReads(least) => said.least_reads = Some(*least),
+            Setting::Color(coloring) => said.coloring = Some(*coloring),
         }
         said
     }
 
-    /// The task that was given; none where a store is missing, or what was said doesn't go together.
-    pub fn task(&self) -> Option<Task>
+    /// What is asked for on an input that looks so; none where a store is missing, or what was said doesn't go together.
+    pub fn asked(&self, sight: Sight) -> Option<Asked>
+        ensures { result ≡ asked_for sight self.now }
+    {
+        match self.on(sight).task() {
+            Some(task) => Some(Asked {
+                task,
+                manner: self.manner(),
+            }),
+            None => None,
+        }
+    }
+
+    fn manner(&self) -> Manner
+        ensures { result ≡ manner_for self.now }
+    {
+        Manner {
+            to_file: self.output,
+            summary: self.summary,
+            least_reads: self.least_reads,
+            coloring: self.coloring.unwrap_or(Coloring::Auto),
+        }
+    }
+
+    // What counts as said on an input that looks so.
+    fn on(&self, sight: Sight) -> Said
+        ensures { result ≡ said_on sight self.now }
+    {
+        let mut said = *self;
+        match sight {
+            Sight::Unseen => {}
+            Sight::Log => said.events = true,
+            Sight::Memory => {
+                said.long = self.long || !self.certificates;
+                said.why = true;
+            }
+            Sight::Other => said.why = true,
+        }
+        said
+    }
+
+    // The task that was given; none where a store is missing, or what was said doesn't go together.
+    fn task(&self) -> Option<Task>
         ensures { result ≡ task_for self.now }
     {
         match self.command {
@@ -185,26 +246,33 @@ impl Said {
 
     // The task to judge one history, or a log; none where what was said doesn't go together.
     fn judge_one(&self) -> Option<Task>
-        ensures { result ≡ judge_one_of self.now.events self.now.every self.now.long self.now }
+        ensures { result ≡ judge_one_of self.now.events self.now.every self.now }
     {
-        match (self.events, self.every, self.long) {
-            (false, None, _) => Some(self.of_input(Order::Judge(self.judging()))),
-            (true, _, true) => Some(Task::OfLog(LogOrder::Judge(self.log_judging()))),
-            _ => None,
+        match (self.events, self.every) {
+            (false, None) => Some(self.of_input(Order::Judge(self.judging()))),
+            (true, _) => Some(Task::OfLog(LogOrder::Judge(self.log_judging()))),
+            (false, Some(_)) => None,
         }
     }
 
     // The task to judge the history in each line; none where what was said doesn't go together.
     fn judge_lines(&self) -> Option<Task>
-        ensures { result ≡ judge_lines_of self.now.events self.now.every self.now.why self.now }
+        ensures { result ≡ judge_lines_of self.now.events self.now.every (says_of_one self.now) self.now }
     {
-        match (self.events, self.every, self.why) {
+        match (self.events, self.every, self.says_of_one()) {
             (false, None, false) => Some(Task::OfInput(
                 Order::JudgeLines(self.line_judging()),
                 Detail::Number,
             )),
             _ => None,
         }
+    }
+
+    // Whether something was said that is of one history or log alone.
+    fn says_of_one(&self) -> bool
+        ensures { result ≡ says_of_one self.now }
+    {
+        self.why || self.summary || self.least_reads.is_some()
     }
 
     fn line_judging(&self) -> LineJudging
@@ -291,7 +359,7 @@ impl Said {
         if self.says_form() {
             return None;
         }
-        Some(Task::OfPage(self.page_with(self.page_of()?), self.detail()))
+        Some(Task::OfPage(self.page_with(self.page_of()), self.detail()))
     }
 
     // Whether another form than a page was said.
@@ -301,15 +369,14 @@ impl Said {
         self.json || self.certificates || self.svg
     }
 
-    // What a page is of; none for a log without `--long`.
-    fn page_of(&self) -> Option<PageOf>
-        ensures { result ≡ page_of_what self.now.events self.now.long }
+    // What a page is of.
+    fn page_of(&self) -> PageOf
+        ensures { result ≡ page_of_what self.now.events (length_for self.now) }
     {
-        match (self.events, self.long) {
-            (false, false) => Some(PageOf::Input(Length::Limited)),
-            (false, true) => Some(PageOf::Input(Length::Any)),
-            (true, true) => Some(PageOf::Log),
-            (true, false) => None,
+        if self.events {
+            PageOf::Log
+        } else {
+            PageOf::Input(self.length())
         }
     }
 
@@ -326,10 +393,10 @@ impl Said {
     fn reasons(&self) -> Option<Task>
         ensures { result ≡ explain_of self.now.all self.now.events self.now.long self.now }
     {
-        match (self.events, self.long) {
-            (true, false) => None,
-            (true, true) => Some(Task::OfLog(self.explain_log()?)),
-            (false, _) => Some(self.of_input(self.explain_input()?)),
+        if self.events {
+            Some(Task::OfLog(self.explain_log()?))
+        } else {
+            Some(self.of_input(self.explain_input()?))
         }
     }
 
@@ -346,7 +413,7 @@ impl Said {
 
     // The order to explain a log; none where what was said doesn't go together.
     fn explain_log(&self) -> Option<LogOrder>
-        ensures { explain_of self.now.all true true self.now ≡ option_map (λ order. OfLog order) result }
+        ensures { explain_of self.now.all true self.now.long self.now ≡ option_map (λ order. OfLog order) result }
     {
         match self.all {
             Some(most) => Some(LogOrder::ListFaults(most, self.list_form()?)),

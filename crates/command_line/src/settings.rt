@@ -4,9 +4,10 @@ ghost use Rattle.std.specs.Prelude.{◌≡◌, ◌≢◌, MatchOption};
 ghost use Rattle.command_line.specs.Options.{SaysAlone, SaysTogether, command_word, takes};
 ghost use Rattle.command_line.specs.Steps.BareWords.{IsNoBareWord};
 
+use crate::coloring::{Coloring, coloring_in};
 use crate::drive::Store;
 use crate::expected::{Expected, expected_in};
-use crate::numerals::{every_in, listed_in, seals_in, session_in, workers_in};
+use crate::numerals::{every_in, listed_in, reads_in, seals_in, session_in, workers_in};
 use workers::Workers;
 
 /// The name of a command.
@@ -67,6 +68,14 @@ pub enum Setting {
     Html,
     /// What is wrong with a refused input is said.
     Why,
+    /// The answer goes to a file, which the next word names.
+    Output,
+    /// Standard error gets how much the run asked.
+    Summary,
+    /// At least so many reads are to be answered.
+    AtLeastReads(u32),
+    /// Whether the lines of an answer are coloured.
+    Color(Coloring),
 }
 
 /// The command of this name.
@@ -98,7 +107,10 @@ impl Setting {
             | Setting::Long
             | Setting::Events
             | Setting::Every(_)
-            | Setting::Why => true,
+            | Setting::Why
+            | Setting::Summary
+            | Setting::AtLeastReads(_)
+            | Setting::Color(_) => true,
             _ => false,
         }
     }
@@ -123,7 +135,9 @@ impl Setting {
             | Setting::Long
             | Setting::Events
             | Setting::All(_)
-            | Setting::Why => true,
+            | Setting::Why
+            | Setting::Output
+            | Setting::Color(_) => true,
             _ => false,
         }
     }
@@ -205,6 +219,7 @@ pub fn setting_alone(word: &str) -> Option<Setting>
         "--svg" => Some(Setting::Svg),
         "--html" => Some(Setting::Html),
         "--why" => Some(Setting::Why),
+        "--summary" => Some(Setting::Summary),
         _ => value_alone(word),
     }
 }
@@ -232,6 +247,9 @@ pub fn setting_together(word: &str, value: &str) -> Option<Setting>
         "--all" => Some(Setting::All(listed_in(value)?)),
         "--every" => Some(Setting::Every(every_in(value)?)),
         "--stop" => Some(Setting::Stop(session_in(value)?)),
+        "--at-least-reads" => Some(Setting::AtLeastReads(reads_in(value)?)),
+        "--color" => Some(Setting::Color(coloring_in(value)?)),
+        "-o" => Some(Setting::Output),
         _ => None,
     }
 }

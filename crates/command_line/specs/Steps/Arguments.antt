@@ -1,6 +1,6 @@
 -- What the program's commands and their arguments are, where they are plain data.
 use Rattle.clap.specs.Words.{App, Rule, with_rule, with_subcommand}
-use Rattle.command_line.specs.CommandLine.{check, drive, events, expect, explain, flag, judge, number_option, refute, replay, store}
+use Rattle.command_line.specs.CommandLine.{check, color, drive, events, expect, explain, files, flag, judge, number_option, output, refute, replay, store}
 use Rattle.command_line.specs.declared.arguments.Argument.{Argument}
 use Rattle.command_line.specs.declared.arguments.Argument.TheVariants as arguments
 use Rattle.command_line.specs.declared.settings.CommandName.{CommandName}
@@ -10,6 +10,9 @@ use Rattle.command_line.specs.declared.settings.CommandName.TheVariants as comma
 abbrev pub rule_of_argument : Argument → Rule
 rule_of_argument arguments.Store = store
 rule_of_argument arguments.Expect = expect
+rule_of_argument arguments.Color = color
+rule_of_argument arguments.Output = output
+rule_of_argument arguments.Files = files
 rule_of_argument (arguments.Flag name help) = flag name.now
 rule_of_argument (arguments.Number name value least most help) = number_option name.now least most
 

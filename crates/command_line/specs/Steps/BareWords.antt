@@ -17,3 +17,4 @@ pub record IsNoBareWord (word : Text) : Type 0 where
   pub events : word ≢ codes "--events"
   pub names : word ≢ codes "--names"
   pub why : word ≢ codes "--why"
+  pub summary : word ≢ codes "--summary"

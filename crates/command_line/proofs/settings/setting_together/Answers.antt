@@ -1,5 +1,5 @@
 -- An option and its value say something where the value is one that the option takes.
-use Rattle.command_line.proofs.SettingWords.{no_all_together, no_every_together, no_expect_together, no_seals_together, no_stop_together, no_together, no_workers_together, none_said}
+use Rattle.command_line.proofs.SettingWords.{no_all_together, no_color_together, no_every_together, no_expect_together, no_reads_together, no_seals_together, no_stop_together, no_together, no_workers_together, none_said}
 use Rattle.command_line.proofs.settings.setting_together.Goals as goal
 
 pub returns-in_ok-seals_in-in-text : goal.returns-in_ok-seals_in-in-text
@@ -47,7 +47,23 @@ returns-in_err-session_in-in-text-6 c =
     none_said c.args.word.now c.args.value.now c.from_residual-in_err-session_in-in-text-6.result c.from_residual-in_err-session_in-in-text-6.ensures
     (no_stop_together c.args.word.now c.args.value.now c.in-text-6.is c.in_err-session_in-in-text-6.ensures)
 
+pub returns-in_ok-reads_in-in-text-7 : goal.returns-in_ok-reads_in-in-text-7
+returns-in_ok-reads_in-in-text-7 c = (c.in-text-7.is, c.in_ok-reads_in-in-text-7.ensures.0, c.in_ok-reads_in-in-text-7.ensures.1)
+
+pub returns-in_ok-coloring_in-in-text-8 : goal.returns-in_ok-coloring_in-in-text-8
+returns-in_ok-coloring_in-in-text-8 c = (c.in-text-8.is, c.in_ok-coloring_in-in-text-8.ensures)
+
+pub returns-in_err-reads_in-in-text-7 : goal.returns-in_err-reads_in-in-text-7
+returns-in_err-reads_in-in-text-7 c =
+    none_said c.args.word.now c.args.value.now c.from_residual-in_err-reads_in-in-text-7.result c.from_residual-in_err-reads_in-in-text-7.ensures
+    (no_reads_together c.args.word.now c.args.value.now c.in-text-7.is c.in_err-reads_in-in-text-7.ensures)
+
+pub returns-in_err-coloring_in-in-text-8 : goal.returns-in_err-coloring_in-in-text-8
+returns-in_err-coloring_in-in-text-8 c =
+    none_said c.args.word.now c.args.value.now c.from_residual-in_err-coloring_in-in-text-8.result c.from_residual-in_err-coloring_in-in-text-8.ensures
+    (no_color_together c.args.word.now c.args.value.now c.in-text-8.is c.in_err-coloring_in-in-text-8.ensures)
+
 pub returns-in_default : goal.returns-in_default
 returns-in_default c =
     no_together c.args.word.now c.args.value.now c.in_default.not-text c.in_default.not-text-2 c.in_default.not-text-3 c.in_default.not-text-6
-    c.in_default.not-text-4 c.in_default.not-text-5
+    c.in_default.not-text-4 c.in_default.not-text-5 c.in_default.not-text-7 c.in_default.not-text-8 c.in_default.not-text-9

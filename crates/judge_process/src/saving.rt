@@ -1,0 +1,49 @@
+//! Answers that go to a file.
+
+use crate::place::Place;
+use std::rt::Files;
+use std::{fs, io};
+
+/// Writes an answer to the file of this name, and returns whether it is there now; says what failed where it is not.
+///
+/// The answer is written beside the file first, under the file's name with `.part` after it, which then takes the place of the file. So
+/// the file has the whole answer, or what it had. What is no plain file, as a pipe, is written to as it is.
+pub(crate) fn save<P: Files + AllocGlobal + Eprint>(
+    place: &Place<'_, P>,
+    name: &str,
+    answer: &[u8],
+) -> bool {
+    match written(place.rt, name, answer) {
+        Ok(()) => true,
+        Err(_) => {
+            let _ = place.rt.eprint(name);
+            let _ = place.rt.eprintln(": the answer can't be written there");
+            false
+        }
+    }
+}
+
+fn written<P: Files + AllocGlobal>(rt: &P, name: &str, answer: &[u8]) -> io::Result<()> {
+    match fs::metadata(rt, name) {
+        Ok(found) if !found.is_file() => fs::write(rt, name, answer),
+        Ok(_) => {
+            let whole = fs::canonicalize(rt, name)?;
+            written_beside(rt, whole.to_str().unwrap_or(name), answer)
+        }
+        Err(_) => written_beside(rt, name, answer),
+    }
+}
+
+// Writes the answer beside a file, and gives it the file's name.
+fn written_beside<P: Files + AllocGlobal>(rt: &P, name: &str, answer: &[u8]) -> io::Result<()> {
+    let part = format!(in rt.alloc(); "{name}.part")?;
+    let outcome = fs::write(rt, part.as_str(), answer).and_then(|_| fs::rename(
+        rt,
+        part.as_str(),
+        name,
+    ));
+    if outcome.is_err() {
+        let _ = fs::remove_file(rt, part.as_str());
+    }
+    outcome
+}
