@@ -8,7 +8,7 @@ Each history is a small memory or one of many sessions (random_memories.py), mos
 of reads at fault.
 
 - `--json`: the explanation is that of `explain --json`. The counts and the listed reads, with the writes that they missed, are right by
-  plain_faults.py; where values are not distinct there are none.
+  plain_faults.py; where values are not distinct there are none. guarantees.py looks at the guarantees.
 - The words: the lines that are not indented are those of `judge`. The kinds and the sessions are counted right, and the first reads are
   listed, as many as there may be: each with its variable and value, its source, and one of the latest writes that it missed.
 
@@ -28,11 +28,11 @@ from plain_faults import KINDS
 from random_histories import run_random
 
 PLACE, READ = r"(\d+\.\d+)", r"(\d+\.\d+) reads (\d+) from variable (\d+)"
-MISSED = rf", after {PLACE} wrote (\d+) to it"
+MISSED, BREAKS = rf", after {PLACE} wrote (\d+) to it", ", breaks [a-z ]+"
 LISTED = {
     "ThinAirRead": re.compile(rf"{READ}, which nobody wrote: ThinAirRead"),
-    "WriteCOInitRead": re.compile(rf"{READ} \(its initial value\){MISSED}: WriteCOInitRead"),
-    "WriteCORead": re.compile(rf"{READ} \(written by {PLACE}\){MISSED}: WriteCORead"),
+    "WriteCOInitRead": re.compile(rf"{READ} \(its initial value\){MISSED}: WriteCOInitRead{BREAKS}"),
+    "WriteCORead": re.compile(rf"{READ} \(written by {PLACE}\){MISSED}: WriteCORead{BREAKS}"),
 }
 OF_KIND = re.compile(rf"({'|'.join(KINDS)}): (\d+) reads? in (\d+) of (\d+) sessions?")
 OF_SESSION = re.compile(r"session (\d+): (\d+) reads?")

@@ -93,9 +93,9 @@ def is_form_of(fault, value):
 
 
 def is_right(found, most, value):
-    """Whether a value is the form of these faults: the counts by kind, those of each session that has a fault, and the first faults, at
-    most so many."""
-    counts, by_session, listed = value
+    """Whether a value is the form of these faults: the counts by kind, those of each session that has a fault, the first faults, at most so
+    many, and what they break, which is left to guarantees.py."""
+    counts, by_session, listed, _ = value
     return (
         counts == found.counts()
         and by_session == found.by_session()

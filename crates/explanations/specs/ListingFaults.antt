@@ -35,7 +35,7 @@ pub record IsFaultReportOf (most : ℕ) (history : AnyHistory) (report : FaultRe
 -- the form of a list: that of the findings, and that of the faults, if values are distinct
 abbrev pub list_form : Option Faults → Data
 list_form None = null
-list_form (Some faults) = faults_form faults.counts faults.by_session.items faults.listed.items
+list_form (Some faults) = faults_form faults.counts faults.by_session.items faults.listed.items faults.broken
 
 abbrev pub fault_report_form : FaultReport → Data
 fault_report_form report = list (findings_form report.findings ∷ list_form report.faults ∷ [])

@@ -44,6 +44,11 @@ impl<'a, N: Names> Names for CoreNames<'a, N> {
         self.whole.sessions_words(alloc, count)
     }
 
+    fn goes_on(&self, from: OpId, to: OpId) -> bool {
+        self.whole
+            .goes_on(self.core.in_whole(from), self.core.in_whole(to))
+    }
+
     fn operation(&self, alloc: Global, op: OpId) -> Result<String, AllocError> {
         self.whole.operation(alloc, self.core.in_whole(op))
     }

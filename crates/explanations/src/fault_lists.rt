@@ -87,7 +87,7 @@ pub fn list_in_limited<T: Threads + Wait + Sync, N: Names>(
     let work = WorkerThreads::of(rt, Workers::usual());
     let text = match form {
         ListForm::Words => words_in_limited(&work, alloc, &history, long, names, most),
-        ListForm::Json => json_in_limited(&work, alloc, &history, long, most),
+        ListForm::Json => json_in_limited(&work, alloc, &history, long, names, most),
     };
     history.discard();
     text
@@ -186,18 +186,19 @@ fn words_on_findings<N: Names>(
 }
 
 // That list as JSON.
-fn json_in_limited<W: PieceWork>(
+fn json_in_limited<W: PieceWork, N: Names>(
     work: &W,
     alloc: Global,
     history: &AnyHistory,
     long: Option<&LongHistory>,
+    names: &N,
     most: u32,
 ) -> Result<String, AllocError>
     requires can_check { W.can_check work.now }
     requires long { IsLongOf history.now (option_map (λ g. g.now) long) }
     ensures { IfOk result (λ text. IsListOf ListForm.Json most history.now (string_bytes text)) }
 {
-    let faults = faults_of_any(alloc, history, long, most)?;
+    let faults = faults_of_any(alloc, history, long, names, most)?;
     let findings = findings_of(work, alloc, history, Kept::Patterns)?;
     let report = FaultReport { findings, faults };
     let text = text_of_report(alloc, &report);
@@ -227,7 +228,7 @@ fn list_in_larger<W: SessionWork, N: Names>(
         ListForm::Json => {
             let LongFindings { findings, found } = said;
             drop(found);
-            json_in_larger(alloc, history, findings, most)
+            json_in_larger(alloc, history, names, findings, most)
         }
     }
 }
@@ -249,16 +250,17 @@ fn words_in_larger<N: Names>(
 }
 
 // That list as JSON.
-fn json_in_larger(
+fn json_in_larger<N: Names>(
     alloc: Global,
     history: &LongHistory,
+    names: &N,
     findings: Findings,
     most: u32,
 ) -> Result<String, AllocError>
     requires { EachIsFinding (AnyHistory.Memory history.now) findings }
     ensures { IfOk result (λ text. IsListOf ListForm.Json most (AnyHistory.Memory history.now) (string_bytes text)) }
 {
-    match faults_of(alloc, history, most) {
+    match faults_of(alloc, history, names, most) {
         Ok(faults) => {
             let report = FaultReport { findings, faults };
             let text = text_of_report(alloc, &report);
@@ -282,28 +284,34 @@ fn joined(alloc: Global, first: &str, lines: &[String]) -> Result<String, AllocE
 }
 
 // The faults of a memory history.
-fn faults_of(alloc: Global, history: &LongHistory, most: u32) -> Result<Option<Faults>, AllocError>
+fn faults_of<N: Names>(
+    alloc: Global,
+    history: &LongHistory,
+    names: &N,
+    most: u32,
+) -> Result<Option<Faults>, AllocError>
     ensures { IfOk result (AreFaultsIn most (AnyHistory.Memory history.now)) }
 {
     match LongIndex::of(alloc, history)? {
-        Some(index) => Ok(Some(find_faults(alloc, &index, most as usize)?)),
+        Some(index) => Ok(Some(find_faults(alloc, &index, names, most as usize)?)),
         None => Ok(None),
     }
 }
 
 // The faults of a history of any object: those of a memory.
 #[tactic(auto, using(crate::proofs::ListedTexts::faults_of_long, crate::proofs::ListedTexts::no_faults))]
-fn faults_of_any(
+fn faults_of_any<N: Names>(
     alloc: Global,
     _history: &AnyHistory,
     long: Option<&LongHistory>,
+    names: &N,
     most: u32,
 ) -> Result<Option<Faults>, AllocError>
     requires { IsLongOf _history.now (option_map (λ g. g.now) long) }
     ensures { IfOk result (AreFaultsIn most _history.now) }
 {
     match long {
-        Some(long) => faults_of(alloc, long, most),
+        Some(long) => faults_of(alloc, long, names, most),
         None => Ok(None),
     }
 }
@@ -346,10 +354,10 @@ fn lines_of_index<N: Names>(
     names: &N,
     most: u32,
 ) -> Result<Vec<String>, AllocError> {
-    let found = find_faults(alloc, index, most as usize)?;
+    let found = find_faults(alloc, index, names, most as usize)?;
     let mut lines = count_lines(alloc, names, &found)?;
-    for fault in &found.listed {
-        lines.push(fault_line(alloc, index, names, fault)?)?;
+    for (place, fault) in found.listed.iter().enumerate() {
+        lines.push(fault_line(alloc, index, names, fault, found.broken.at(place))?)?;
     }
     Ok(lines)
 }

@@ -9,6 +9,7 @@ ghost use Rattle.long_faults.specs.Found.{IsFoundAt, IsMissedAt, IsTallyBelow};
 ghost use Rattle.long_faults.specs.Noted.{AreLatestMissed};
 ghost use Rattle.long_faults.specs.Tallies.{IsTallyOf};
 
+use crate::broken::broken_guarantees;
 use crate::fault::Fault;
 use crate::missed::{missed_writes, nothing_missed};
 use crate::tally::Faults;
@@ -16,14 +17,20 @@ use history::OpId;
 use long_index::{LongIndex, Part};
 use long_order::causal_order;
 use std::alloc::{AllocError, Global};
+use wording::Names;
 
 /// The reads that show a fault: for the first ones, at most so many, what they show and which write they missed; for all, how many there
-/// are of each kind and in each session.
+/// are of each kind and in each session, and how many break each guarantee.
 ///
 /// Among the writes that a read missed, it names one that no other is after in the causal order. If that order has a cycle, it counts
-/// only reads of values that nobody wrote. Fails for want of memory alone. O(n k) for n operations and k sessions that write. It takes 16
-/// bytes an operation and 4 a variable.
-pub fn find_faults(alloc: Global, index: &LongIndex, most: usize) -> Result<Faults, AllocError>
+/// only reads of values that nobody wrote. The names say where a session goes on. Fails for want of memory alone. O(n (k + log n)) for n
+/// operations of k sessions. It takes 28 bytes an operation, 8 a session and 4 a variable.
+pub fn find_faults<N: Names>(
+    alloc: Global,
+    index: &LongIndex,
+    names: &N,
+    most: usize,
+) -> Result<Faults, AllocError>
     ensures tally { IfOk result (λ f. IsTallyOf index.now.history most f.listed.items f.counts f.by_session.items) }
     ensures sessions { IfOk result (λ f. f.sessions ≡ length index.now.history.1) }
     ensures cycle { IfOk result (λ f. IsTrue f.has_cycle ↔ IsCyclic index.now.history) }
@@ -31,19 +38,20 @@ pub fn find_faults(alloc: Global, index: &LongIndex, most: usize) -> Result<Faul
     match causal_order(alloc, index)? {
         Some(order) => {
             let missed = missed_writes(alloc, index, &order)?;
-            tally(alloc, index, &missed, most, false)
+            tally(alloc, index, names, &missed, most, false)
         }
         None => {
             let missed = nothing_missed(alloc, index)?;
-            tally(alloc, index, &missed, most, true)
+            tally(alloc, index, names, &missed, most, true)
         }
     }
 }
 
 /// Lists and counts the faults, by the latest writes that reads missed.
-fn tally(
+fn tally<N: Names>(
     alloc: Global,
     index: &LongIndex,
+    names: &N,
     missed: &[u32],
     most: usize,
     has_cycle: bool,
@@ -53,7 +61,8 @@ fn tally(
     ensures sessions { IfOk result (λ f. f.sessions ≡ length index.now.history.1) }
     ensures cycle { IfOk result (λ f. f.has_cycle ≡ has_cycle) }
 {
-    let mut faults = Faults::none(alloc, index.sessions(), has_cycle);
+    let broken = broken_guarantees(alloc, index, names, missed, most)?;
+    let mut faults = Faults::none(alloc, broken, index.sessions(), has_cycle);
     for operation in 0..index.operations() {
         add_fault(index, missed, operation, most, &mut faults)?;
     }

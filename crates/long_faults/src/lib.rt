@@ -1,10 +1,13 @@
 //! All reads of a long history that show a fault, each with the write that it missed.
 //!
-//! It gives [`find_faults`], which lists some of them and counts all, by kind and by session, and the same in words and as JSON. Where
-//! `long_decision` says that a kind is present, this says which reads show it. The crate uses long_columns and bad_patterns.
+//! It gives [`find_faults`], which lists some of them and counts all, by kind, by session and by the guarantee that a stale read breaks,
+//! and the same in words and as JSON. Where `long_decision` says that a kind is present, this says which reads show it. The crate uses
+//! long_columns and bad_patterns.
 #![tactic(auto)]
 
+mod broken;
 mod counts;
+mod direct_reads;
 mod fault;
 mod finding;
 mod lines;
@@ -12,6 +15,7 @@ mod missed;
 mod tally;
 mod value;
 
+pub use broken::{Breaks, Broken, GuaranteeCounts};
 pub use counts::{FaultCounts, SessionFaults};
 pub use fault::Fault;
 pub use finding::find_faults;

@@ -1,5 +1,6 @@
 //! Faults in words, which nobody trusts.
 
+use crate::broken::GuaranteeCounts;
 use crate::counts::SessionFaults;
 use crate::fault::Fault;
 use crate::tally::Faults;
@@ -9,7 +10,7 @@ use long_history::{LongEntry, LongHistory};
 use long_index::LongIndex;
 use objects::{RegisterCall, RegisterRet};
 use std::alloc::{AllocError, Global};
-use wording::{Names, read_of};
+use wording::{Guarantee, Names, read_of};
 
 /// The kinds of faults, in the order of their lines.
 const KINDS: [Kind; 3] = [Kind::ThinAirRead, Kind::WriteCOInitRead, Kind::WriteCORead];
@@ -17,18 +18,19 @@ const KINDS: [Kind; 3] = [Kind::ThinAirRead, Kind::WriteCOInitRead, Kind::WriteC
 /// The most sessions that have a line each.
 const SHOWN_SESSIONS: usize = 16;
 
-/// The line of a fault of the indexed history: what the read returned, which write it missed, and the kind.
+/// The line of a fault of the indexed history: what the read returned, which write it missed, the kind, and which guarantee it breaks.
 ///
-/// `2.117 reads 41 from variable 3 (written by 0.12), after 5.80 wrote 63 to it: WriteCORead`. It says less about operations that the
-/// history doesn't have. Fails for want of memory alone. O(1).
+/// `2.117 reads 41 from variable 3 (written by 0.12), after 5.80 wrote 63 to it: WriteCORead, breaks monotonic reads`. It says less about
+/// operations that the history doesn't have. Fails for want of memory alone. O(1).
 pub fn fault_line<N: Names>(
     alloc: Global,
     index: &LongIndex,
     names: &N,
     fault: &Fault,
+    breaks: Option<Guarantee>,
 ) -> Result<String, AllocError> {
     let h = index.history();
-    let kind = fault.kind().name();
+    let kind = kind_words(alloc, fault.kind(), breaks)?;
     let Some((key, value)) = known_read(h, fault.read()) else {
         let read = names.operation(alloc, fault.read())?;
         return format!(in alloc; "{read}: {kind}");
@@ -48,6 +50,18 @@ pub fn fault_line<N: Names>(
             let missed = missed_words(alloc, h, names, missed)?;
             format!(in alloc; "{read} (written by {source}), {missed}: {kind}")
         }
+    }
+}
+
+/// The name of a kind, and which guarantee is broken.
+fn kind_words(alloc: Global, kind: Kind, breaks: Option<Guarantee>) -> Result<String, AllocError> {
+    let kind = kind.name();
+    match breaks {
+        Some(guarantee) => {
+            let guarantee = guarantee.name();
+            format!(in alloc; "{kind}, breaks {guarantee}")
+        }
+        None => String::from_str(alloc, kind),
     }
 }
 
@@ -95,10 +109,10 @@ fn known_write(h: &LongHistory, op: OpId) -> Option<(u32, u64)> {
     }
 }
 
-/// The lines of the counts: one for each kind that occurs, then one for each session that has a fault, those with the most first, at most
-/// sixteen of them and how many more there are.
+/// The lines of the counts: one for each kind that occurs, then one for each guarantee that is broken, and then one for each session that
+/// has a fault, those with the most first, at most sixteen of them and how many more there are.
 ///
-/// `WriteCORead: 117 reads in 3 of 64 sessions`, `session 2: 90 reads`. Fails for want of memory alone. O(s log s) for s sessions that have
+/// `WriteCORead: 117 reads in 3 of 64 sessions`, `monotonic reads: broken by 117 reads`, `session 2: 90 reads`. Fails for want of memory alone. O(s log s) for s sessions that have
 /// a fault.
 pub fn count_lines<N: Names>(
     alloc: Global,
@@ -112,6 +126,7 @@ pub fn count_lines<N: Names>(
             lines.push(kind_line(alloc, names, faults, kind, count)?)?;
         }
     }
+    push_guarantee_lines(alloc, faults.broken.counts, &mut lines)?;
     push_session_lines(alloc, names, &faults.by_session, &mut lines)?;
     Ok(lines)
 }
@@ -133,6 +148,23 @@ fn kind_line<N: Names>(
     let all = names.sessions_words(alloc, faults.sessions as usize)?;
     let reads = reads_words(alloc, u64::from(count))?;
     format!(in alloc; "{name}: {reads} in {sessions} of {all}")
+}
+
+/// Pushes the lines of the guarantees that are broken.
+fn push_guarantee_lines(
+    alloc: Global,
+    counts: GuaranteeCounts,
+    lines: &mut Vec<String>,
+) -> Result<(), AllocError> {
+    for guarantee in Guarantee::ALL {
+        let count = counts.of(guarantee);
+        if count > 0 {
+            let name = guarantee.name();
+            let reads = reads_words(alloc, u64::from(count))?;
+            lines.push(format!(in alloc; "{name}: broken by {reads}")?)?;
+        }
+    }
+    Ok(())
 }
 
 /// So many reads.

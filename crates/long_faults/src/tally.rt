@@ -7,6 +7,7 @@ ghost use Rattle.long_faults.specs.Faults.{IsListed, read_of};
 ghost use Rattle.long_faults.specs.Found.{IsLastRow};
 ghost use Rattle.long_faults.specs.Tallies.{AreBelow, AreSessionCounts, IsBelow, IsListedWith, IsTally};
 
+use crate::broken::Broken;
 use crate::counts::{FaultCounts, SessionFaults};
 use crate::fault::Fault;
 use std::alloc::{AllocError, Global};
@@ -20,6 +21,8 @@ pub struct Faults {
     pub counts: FaultCounts,
     /// How many there are in each session that has one, in the order of sessions.
     pub by_session: Vec<SessionFaults>,
+    /// Which guarantees the reads break that missed a write.
+    pub broken: Broken,
     /// How many sessions the history has.
     pub sessions: u32,
     /// Whether the causal order has a cycle; then the search covers only reads of values that nobody wrote.
@@ -27,8 +30,8 @@ pub struct Faults {
 }
 
 impl Faults {
-    /// No faults yet.
-    pub(crate) fn none(alloc: Global, sessions: u32, has_cycle: bool) -> Faults
+    /// No faults yet, of those that break these guarantees.
+    pub(crate) fn none(alloc: Global, broken: Broken, sessions: u32, has_cycle: bool) -> Faults
         ensures tally { (most : ℕ) → IsTally [] most result.listed.items result.counts result.by_session.items }
         ensures sessions { result.sessions ≡ sessions }
         ensures cycle { result.has_cycle ≡ has_cycle }
@@ -37,6 +40,7 @@ impl Faults {
             listed: Vec::new(alloc),
             counts: FaultCounts::none(),
             by_session: Vec::new(alloc),
+            broken,
             sessions,
             has_cycle,
         }

@@ -3,8 +3,10 @@
 ghost use Rattle.std.specs.Prelude.{◌≡◌, ◌∷◌, [], IfOk};
 ghost use Rattle.serde_json.specs.View.{view};
 ghost use Rattle.operations.specs.Reads.{worded};
-ghost use Rattle.long_faults.specs.FaultsForm.{count_form, counts_form, faults_form};
+ghost use Rattle.wording.specs.Guarantees.{guarantee_name};
+ghost use Rattle.long_faults.specs.FaultsForm.{broken_form, count_form, counts_form, faults_form, guarantee_form, guarantees_form, name_form};
 
+use crate::broken::{Breaks, Broken, GuaranteeCounts};
 use crate::counts::{FaultCounts, SessionFaults};
 use crate::fault::Fault;
 use crate::tally::Faults;
@@ -12,13 +14,15 @@ use bad_patterns::Kind;
 use evidence::{Written, list_value, op_value, worded_one, worded_two};
 use serde_json::Value;
 use std::alloc::{AllocError, Global};
+use wording::Guarantee;
 
-/// The form of faults: a list of the counts by kind, of the counts of each session that has a fault, and of the listed faults.
+/// The form of faults: a list of the counts by kind, of the counts of each session that has a fault, of the listed faults, and of what they
+/// break.
 ///
 /// It doesn't say whether the causal order has a cycle. Fails for want of memory alone. O(n) for n listed faults and sessions.
 pub fn faults_value(alloc: Global, faults: &Faults) -> Result<Value, AllocError>
     ensures form { IfOk result (λ value.
-        view value ≡ faults_form faults.now.counts faults.now.by_session.items faults.now.listed.items) }
+        view value ≡ faults_form faults.now.counts faults.now.by_session.items faults.now.listed.items faults.now.broken) }
 {
     let counts = counts_value(alloc, faults.counts)?;
     let by_session = list_value(alloc, &faults.by_session)?;
@@ -26,7 +30,62 @@ pub fn faults_value(alloc: Global, faults: &Faults) -> Result<Value, AllocError>
     values.push(counts)?;
     values.push(by_session)?;
     values.push(list_value(alloc, &faults.listed)?)?;
+    values.push(broken_value(alloc, &faults.broken)?)?;
     Ok(Value::Array(values))
+}
+
+/// The form of what is broken.
+fn broken_value(alloc: Global, broken: &Broken) -> Result<Value, AllocError>
+    ensures { IfOk result (λ value. view value ≡ broken_form broken.now) }
+{
+    let mut values = Vec::new(alloc);
+    values.push(guarantees_value(alloc, broken.counts)?)?;
+    values.push(list_value(alloc, &broken.listed)?)?;
+    Ok(Value::Array(values))
+}
+
+/// The form of how many reads break each guarantee.
+fn guarantees_value(alloc: Global, counts: GuaranteeCounts) -> Result<Value, AllocError>
+    ensures { IfOk result (λ value. view value ≡ guarantees_form counts) }
+{
+    let mut values = Vec::new(alloc);
+    values.push(guarantee_value(alloc, Guarantee::ReadYourWrites, counts.read_your_writes)?)?;
+    values.push(guarantee_value(alloc, Guarantee::MonotonicReads, counts.monotonic_reads)?)?;
+    values.push(guarantee_value(alloc, Guarantee::MonotonicWrites, counts.monotonic_writes)?)?;
+    values.push(guarantee_value(
+        alloc,
+        Guarantee::WritesFollowReads,
+        counts.writes_follow_reads,
+    )?)?;
+    values.push(guarantee_value(alloc, Guarantee::CausalOrder, counts.causal_order)?)?;
+    Ok(Value::Array(values))
+}
+
+/// The form of how many reads break a guarantee.
+fn guarantee_value(alloc: Global, guarantee: Guarantee, count: u32) -> Result<Value, AllocError>
+    ensures { IfOk result (λ value. view value ≡ guarantee_form guarantee count) }
+{
+    worded_one(alloc, guarantee.name(), Value::from(u64::from(count)))
+}
+
+impl Written for Breaks {
+    ghost use Rattle.long_faults.specs.FaultsForm.{breaks_form};
+
+    ghost form = { breaks_form };
+
+    fn value(&self, alloc: Global) -> Result<Value, AllocError> {
+        name_value(alloc, self.guarantee)
+    }
+}
+
+/// The form of what a fault breaks.
+fn name_value(alloc: Global, guarantee: Option<Guarantee>) -> Result<Value, AllocError>
+    ensures { IfOk result (λ value. view value ≡ name_form guarantee) }
+{
+    match guarantee {
+        Some(guarantee) => Ok(Value::String(String::from_str(alloc, guarantee.name())?)),
+        None => Ok(Value::Null),
+    }
 }
 
 /// The form of counts.

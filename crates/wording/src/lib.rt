@@ -9,6 +9,7 @@ mod derivation_steps;
 mod derived_pairs;
 mod forms;
 mod gathering;
+mod guarantees;
 mod listing;
 mod long_histories;
 mod naming;
@@ -23,6 +24,7 @@ mod steps;
 mod unexplained;
 
 pub use derived_pairs::{DerivedPairs, ends_of};
+pub use guarantees::Guarantee;
 pub use listing::listed;
 pub use long_histories::{words_of_kept, words_of_long_yes, words_of_operations, words_of_places};
 pub use naming::{Names, OwnNames, counted, name_of};

@@ -48,6 +48,11 @@ pub trait Names {
         counted(alloc, count, self.session_word())
     }
 
+    /// Whether an operation of the part comes after another one in its client's session.
+    fn goes_on(&self, from: OpId, to: OpId) -> bool {
+        from.session == to.session && from.index < to.index
+    }
+
     /// The name of an operation of the part.
     fn operation(&self, alloc: Global, op: OpId) -> Result<String, AllocError> {
         name_of(alloc, self.in_whole(op))

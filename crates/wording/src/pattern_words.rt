@@ -2,6 +2,7 @@
 
 use crate::forms::{Made, numbered, push_text, with_one};
 use crate::gathering::{Outline, outline_of};
+use crate::guarantees::{broken_by, sentence_on_guarantee};
 use crate::naming::Names;
 use crate::operation_words::operation_words;
 use crate::sentences::{NOTHING, sentence_of};
@@ -14,7 +15,8 @@ use objects::Memory;
 use std::alloc::{AllocError, Global};
 
 /// Why a pattern shows that a history of a memory does not meet a criterion, in lines with no line feed: the operations, each
-/// with its call and its return, then the steps from one to the other, and at the end what is wrong. The operations have these names.
+/// with its call and its return, then the steps from one to the other, what is wrong, and of a stale read which guarantee it breaks. The
+/// operations have these names.
 ///
 /// The text has the first 20 steps and the last 20, and says how many are left out between them. It says something even if the
 /// pattern is not one of the history.
@@ -45,6 +47,7 @@ fn lines_of<N: Names>(
     push_operations(alloc, &mut lines, h, names, outline)?;
     push_shown(alloc, &mut lines, names, &outline.steps)?;
     push_text(&mut lines, last_line(alloc, h, names, pattern, outline))?;
+    push_guarantee(alloc, &mut lines, names, pattern)?;
     Ok(lines)
 }
 
@@ -136,5 +139,18 @@ fn last_line<N: Names>(
     match outline.ends {
         Some(ends) => sentence_of(alloc, h, names, pattern, ends),
         None => String::from_str(alloc, NOTHING),
+    }
+}
+
+// Which guarantee is broken, if the pattern shows a stale read.
+fn push_guarantee<N: Names>(
+    alloc: Global,
+    lines: &mut Vec<String>,
+    names: &N,
+    pattern: &Pattern,
+) -> Result<(), AllocError> {
+    match broken_by(names, pattern) {
+        Some(guarantee) => push_text(lines, sentence_on_guarantee(alloc, guarantee)),
+        None => Ok(()),
     }
 }

@@ -5,7 +5,7 @@ use Rattle.long_faults.proofs.Tallied.{tally-first, tally-whole}
 use Rattle.long_faults.proofs.finding.tally.Goals as goal
 
 pub loop-operation-init : goal.loop-operation-init
-loop-operation-init c = record {
+loop-operation-init g c = record {
   sessions = c.none-faults.ensures.sessions ∙ c.sessions.ensures.count;
   cycle = c.none-faults.ensures.cycle;
   tally = tally-first c.args.index.now.history c.args.most c.none-faults.result.listed.items c.none-faults.result.counts
@@ -13,7 +13,7 @@ loop-operation-init c = record {
 }
 
 pub returns-clause-tally : goal.returns-clause-tally
-returns-clause-tally c =
+returns-clause-tally g c =
     let h = c.args.index.now.history in
     let whole : many h ≤ c.loop-operation.operation = grind arith in
     tally-whole h c.args.most c.loop-operation.operation c.loop-operation.faults.listed.items c.loop-operation.faults.counts
