@@ -55,6 +55,9 @@ PIECE = 3
 ASK_NOTHING = re.compile(r"(\d+) reads? found nothing at .*: (?:it asks|they ask) nothing\.")
 LINE = re.compile(r"\bline (\d+)")
 QUOTED = re.compile(r'"(?:\\.|[^"\\])*"')
+OF_CALL = re.compile(r"  line (\d+)(?: \(call\))?: ")
+NOTE = re.compile(r"(?: \[note|;) of line (\d+): ")
+CUT = "\u2026"
 
 
 def outcome(program, words, data):
@@ -200,8 +203,34 @@ def is_worded(form, lines, text):
     return [line for line in text.splitlines() if line.split(" ")[0] in CRITERIA] == lines.splitlines()
 
 
+def apart(words):
+    """The words on a call without its notes; and the notes, the line of each and itself, or None where one of them is cut."""
+    begin = NOTE.search(QUOTED.sub(lambda quoted: "_" * len(quoted[0]), words))
+    if begin is None or CUT in words:
+        return words[: begin.start() if begin else None], None if CUT in words else []
+    notes, end, following = [], 0, begin
+    while following:
+        note, end = json.JSONDecoder().raw_decode(words, following.end())
+        notes.append((int(following[1]), note))
+        following = NOTE.match(words, end)
+    return words[: begin.start()] + words[end + 1 :], notes
+
+
+def note_faults(data, found, text, seen):
+    """What is wrong with the notes that the words show. Of those that are cut nothing is asked."""
+    due = plain_events.notes_of(data, found)
+    for words in text.splitlines():
+        call, shown = OF_CALL.match(words), apart(words)[1]
+        if call is None or shown is None:
+            continue
+        seen["a note that is shown"] += len(shown)
+        if shown != due[int(call[1])]:
+            yield f"{words!r}: its notes are {due[int(call[1])]}"
+
+
 def remark_faults(found, text):
     """What is wrong with what the words say of reads that ask nothing, and with the numbers of the lines of calls."""
+    text = "\n".join(apart(words)[0] for words in text.splitlines())
     many = len(plain_events.Run(found.events).left_out)
     told = {int(number) for number in ASK_NOTHING.findall(text)}
     begins = {line for event, line in zip(found.events, found.lines) if event[0] == "begin"}
@@ -216,7 +245,9 @@ def words_faults(program, data, found, lines, rng, seen):
     written, wrong = answer(program, [*EXPLAIN, *form], data, found)
     if not found.refusal and not (is_harmless(written) and is_worded(form, lines, written)):
         wrong.append(f"explain {' '.join(form)}: {written!r}, due {lines!r}")
-    return wrong + (remark_faults(found, written) if not found.refusal and form in ([], ["--all", str(LISTED)]) else [])
+    if found.refusal or form not in ([], ["--all", str(LISTED)]):
+        return wrong
+    return [*wrong, *remark_faults(found, written), *note_faults(data, found, written, seen)]
 
 
 OTHERS = (names_faults, cuts_faults, cuts_faults, explained_faults, words_faults)
@@ -264,7 +295,7 @@ def never_seen(seen, logs):
     named = [f"{criterion} no {kind}" for kind, against in AGAINST.items() for criterion in against]
     named += [f"{criterion} yes" for criterion in CRITERIA] + ["refused 1", "refused 9", "refused 30"]
     named += [f"a call that ends as {ending}" for ending in ("open", "ok", "got", "nothing", "failed", "lost")]
-    named += ["a fork", "a read that asks nothing", "a start", "a torn end", "a run that ends before its log"]
+    named += ["a fork", "a read that asks nothing", "a start", "a torn end", "a run that ends before its log", "a note that is shown"]
     named += ["a cut that is a no, and the whole a yes"]
     for what in named if logs >= 1_000 else ():
         yield [] if seen[what] else [f"never seen: {what}"]

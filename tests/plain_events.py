@@ -32,11 +32,12 @@ NAMES, VALUES = range(2**64), range(-(2**63), 2**64)
 
 
 class Events(NamedTuple):
-    """What was read of a log: its events, by numbers, and the line of each; the names of clients, keys and values by number; the code and
-    the line of the refusal, or none; and whether the last line is not whole."""
+    """What was read of a log: its events, by numbers, and the line of each; the lines that have a note; the names of clients, keys and values by
+    number; the code and the line of the refusal, or none; and whether the last line is not whole."""
 
     events: list
     lines: list
+    noted: list
     names: dict
     refusal: tuple | None
     is_torn: bool
@@ -83,8 +84,16 @@ def is_value(value):
     return type(value) in (str, bool) or (type(value) is int and value in VALUES)
 
 
+def parted(value):
+    """An event, and whether it has a note, the element that a begin, an end, a fail and a lost may have after the others."""
+    match value:
+        case ["begin" | "end", _, _, _] | ["fail" | "lost", _, _]:
+            return value[:-1], True
+    return value, False
+
+
 def is_form(value):
-    """Whether it is the form of an event."""
+    """Whether it is the form of an event without a note."""
     match value:
         case ["start", key, held]:
             return is_name(key) and is_value(held)
@@ -103,7 +112,7 @@ class Reader:
     """Takes in the events of a log, one after the other."""
 
     def __init__(self):
-        self.events, self.lines = [], []
+        self.events, self.lines, self.noted = [], [], []
         self.names = {kind: Names() for kind in ("clients", "keys", "values")}
         self.pending, self.started, self.has_begun = {}, set(), False
 
@@ -135,10 +144,11 @@ class Reader:
         return ("end", number, "nothing", None) if answer is None else ("end", number, "got", self.names["values"].number(answer))
 
     def take(self, value, line):
-        """Takes in the event of a line."""
-        if not is_form(value):
+        """Takes in the event of a line, which may have a note."""
+        plain, has_note = parted(value)
+        if not is_form(plain):
             raise Refused(NOT_ALLOWED)
-        word, *rest = value
+        word, *rest = plain
         if word == "start":
             event = self.start(*rest)
         elif word == "begin":
@@ -147,10 +157,11 @@ class Reader:
             event = self.end(word, *rest, *([None] if word != "end" else []))
         self.events.append(event)
         self.lines.append(line)
+        self.noted += [line] if has_note else []
 
     def found(self, refusal=None, is_torn=False):
         names = {kind: some.names for kind, some in self.names.items()}
-        return Events(self.events, self.lines, names, refusal, is_torn)
+        return Events(self.events, self.lines, self.noted, names, refusal, is_torn)
 
 
 def lines_of(data):
@@ -179,6 +190,17 @@ def read_log(data):
         except Refused:
             return reader.found(refusal=(NOT_ALLOWED, number))
     return reader.found()
+
+
+def notes_of(data, found):
+    """The notes of each call of a log, by the line of its begin: the line of each, and itself."""
+    begun, notes, texts = {}, {}, data.split(b"\n")
+    for (word, client, *_), line in zip(found.events, found.lines):
+        if word == "start":
+            continue
+        begun[client] = line if word == "begin" else begun[client]
+        notes.setdefault(begun[client], []).extend([(line, json.loads(texts[line - 1])[-1])] if line in found.noted else [])
+    return notes
 
 
 def calls_of(events):

@@ -1,7 +1,7 @@
 """Makes random logs of events for the tests of `--events`: of clients that fail, are lost, delete and stop, and such as are refused.
 
 What these logs show is known to plain_events.py alone. A log is made as a list of events, each a list as it stands in its line, and then
-written: in any spelling of its JSON, with blank lines, cut at its end, and spoilt.
+written: with notes, in any spelling of its JSON, with blank lines, cut at its end, and spoilt.
 """
 
 import json
@@ -24,6 +24,9 @@ NUMBERED = (
     lambda n: f"\u00e9\u4e2d{n}\U0001f600",
     lambda n: f'"{n}\\',
 )
+NOTES = ({"server": "n1"}, {"at": 17.25, "by": ["n1", "n2"], "retried": False}, "request 17 at n2", "", "\u202e", "\x1b[31m", "</script>", "a" * 300)
+NOTES += (None, True, 0, -(2**63), 2**64 - 1, 0.5, -0.125, [], {}, [[]], ["ok"], {"": None, '"': "\\", "\u2028": "\n"}, "ok", "lost", ["lost", "a"])
+NOTES += (json.loads("[" * 126 + "]" * 126), json.loads('{"a":' * 60 + "0" + "}" * 60))
 LONG_LINE = 2_000_000
 NO_JSON = (b"begin", b"[", b'["begin","a"', b"{'a':1}", b'["lost","a"]]', b'"\xff"', b"\xc3\x28", b'["lost","\\ud800"]', b"NaN", b"01")
 NO_JSON += (b"[1,]", b"\x00", b"[" * 128 + b"]" * 128, b"1e400", b'\xef\xbb\xbf["lost","a"]', b'["fail" "a"]', b'["lost","a\tb"]')
@@ -31,9 +34,10 @@ NO_FORM = ([], {}, 5, "lost", None, True, [["lost"]], ["begin"], ["begin", "a"],
 NO_FORM += (["begin", "a", ["w", "k"]], ["begin", "a", ["r", "k", 1]], ["begin", "a", ["d", "k", 1]], ["begin", "a", ["x", "k"]], ["lost"])
 NO_FORM += (["begin", None, ["r", "k"]], ["begin", True, ["r", "k"]], ["begin", -1, ["r", "k"]], ["begin", 2**64, ["r", "k"]], ["fail", 1.5])
 NO_FORM += (["begin", "a", ["r", -1]], ["begin", "a", ["r", False]], ["begin", "a", ["w", "k", None]], ["begin", "a", ["w", "k", 0.5]])
-NO_FORM += (["begin", "a", ["w", "k", 2**64]], ["begin", "a", ["w", "k", -(2**63) - 1]], ["begin", "a", ["w", "k", [1]]], ["lost", "a", 1])
+NO_FORM += (["begin", "a", ["w", "k", 2**64]], ["begin", "a", ["w", "k", -(2**63) - 1]], ["begin", "a", ["w", "k", [1]]], ["lost", "a", 1, 2])
 NO_FORM += (["start", "k", None], ["start", "k"], ["start", None, 1], ["start", "k", 1.0], ["START", "k", 1], ["end", "a"], ["end", "a", {}])
-NO_FORM += (["begin", "a", ["w", "k", 1], 0], ["begin", "a", "r", "k"], ["end", "a", 1, 2], ["fail", "a", "ok"], [1, "a"])
+NO_FORM += (["begin", "a", ["w", "k", 1], 0, 0], ["begin", "a", "r", "k"], ["end", "a", 1, 2, 3], ["fail", "a", "ok", None], [1, "a"])
+NO_FORM += (["start", "k", 1, 2], ["begin", "a", ["r", "k", 1], 0], ["end", "a", {}, 1], ["fail", None, 1], ["END", "a", 1, 2])
 NO_FORM += (["begin", ["a"], ["r", "k"]], ["end", None, 1], ["lost", {}])
 NO_NUMBERS = (b"1.0", b"1e2", b"-0", b"0.0", b"18446744073709551616", b"-9223372036854775809", b"1E400")
 
@@ -218,6 +222,11 @@ def escaped(rng, text):
     return "".join(found)
 
 
+def noted(rng, event, notes):
+    """The event, which has a note by that chance. A start has none."""
+    return [*event, rng.choice(NOTES)] if event[0] != "start" and rng.random() < notes else event
+
+
 def line_of(rng, event):
     """The line of an event, in some spelling."""
     text = json.dumps(event, ensure_ascii=rng.random() < 0.5, separators=rng.choice(((",", ":"), (", ", ": "), (" ,\t", " : "))))
@@ -265,8 +274,8 @@ def spoilt(rng, events, lines):
 
 def log(rng):
     """The bytes of a log, which may be refused."""
-    events = events_of(rng)
-    lines = [line_of(rng, event) for event in events]
+    events, notes = events_of(rng), rng.choice((0, 0, 0.2, 1))
+    lines = [line_of(rng, noted(rng, event, notes)) for event in events]
     for _ in range(rng.choice((0, 0, 0, 0, 1)) if rng.random() < 0.9 else 2):
         lines = spoilt(rng, events, lines)
     for _ in range(rng.choice((0, 0, 0, 1, 3))):

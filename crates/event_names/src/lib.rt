@@ -6,8 +6,9 @@
 
 mod log_names;
 mod log_tables;
+mod notes;
 mod phrases;
 mod shortening;
 
 pub use log_names::LogNames;
-pub use log_tables::{LogTables, StoodFor};
+pub use log_tables::{CallNote, LogTables, StoodFor};

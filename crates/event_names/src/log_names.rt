@@ -1,6 +1,7 @@
 //! The names of a log, as texts on its history have them.
 
 use crate::log_tables::{LogTables, StoodFor};
+use crate::notes::with_notes;
 use crate::phrases::{
     call_label, call_words, client_name, fork_label, fork_words, key_words, value_name,
 };
@@ -108,6 +109,11 @@ impl<'a, T: LogTables> Names for LogNames<'a, T> {
         }
     }
 
+    fn goes_on(&self, from: OpId, to: OpId) -> bool {
+        let is_own = from.session == to.session && from.index < to.index;
+        is_own || (self.is_in_fork(to) && to.index == 0)
+    }
+
     fn operation(&self, alloc: Global, op: OpId) -> Result<String, AllocError> {
         let Some(stood) = self.tables.stood_for(op) else {
             return name_of(alloc, op);
@@ -139,7 +145,7 @@ impl<'a, T: LogTables> Names for LogNames<'a, T> {
             Some(stood) if self.is_in_fork(op) => {
                 Ok(Some(fork_words(alloc, self.tables, stood, op.index > 0)?))
             }
-            Some(stood) => Ok(Some(call_words(alloc, self.tables, stood)?)),
+            Some(stood) => Ok(Some(noted_words(alloc, self.tables, stood)?)),
             None => Ok(None),
         }
     }
@@ -236,6 +242,16 @@ impl<'a, T: LogTables> Names for LogNames<'a, T> {
         let value = self.value(alloc, key, value)?;
         format!(in alloc; "wrote {value} to it")
     }
+}
+
+// What a client did by a call, and its notes.
+fn noted_words<T: LogTables>(
+    alloc: Global,
+    tables: &T,
+    stood: StoodFor,
+) -> Result<String, AllocError> {
+    let words = call_words(alloc, tables, stood)?;
+    with_notes(alloc, tables, words, stood.place)
 }
 
 // A client by its name, as a session.

@@ -17,9 +17,18 @@ pub struct StoodFor {
     pub ending: Option<Ending>,
 }
 
+/// A note of a call.
+#[derive(Drop)]
+pub struct CallNote {
+    /// The number of the line that has it, from 1.
+    pub line: u64,
+    /// The JSON text of the note.
+    pub text: String,
+}
+
 /// What is known of the operations of a log's history, and of its names.
 ///
-/// No contract restricts an answer: other names only make other texts. Names are JSON texts with no line feed, in which no character
+/// No contract restricts an answer: other names only make other texts. Names and notes are JSON texts with no line feed, in which no character
 /// disturbs a terminal. Each call that gives a text fails for want of memory alone.
 pub trait LogTables {
     /// The call that an operation of the history represents: none where the history has no such operation.
@@ -39,6 +48,9 @@ pub trait LogTables {
 
     /// A value as it is written.
     fn value_name(&self, alloc: Global, value: u32) -> Result<String, AllocError>;
+
+    /// The note on the begin or on the end of the call that began at a place: none where there is none.
+    fn note(&self, alloc: Global, place: u32, is_end: bool) -> Result<Option<CallNote>, AllocError>;
 
     /// The keys at which reads found nothing and are left out of the history, each with the number of these reads.
     fn left_out(&self) -> &[(u32, u32)];

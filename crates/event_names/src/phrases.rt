@@ -1,7 +1,8 @@
 //! What is said of single calls, clients, keys and values.
 
 use crate::log_tables::{LogTables, StoodFor};
-use crate::shortening::shortened;
+use crate::notes::with_notes;
+use crate::shortening::short_name;
 use events::{ClientCall, Ending};
 use std::alloc::{AllocError, Global};
 
@@ -21,7 +22,7 @@ pub(crate) fn client_name<T: LogTables>(
     tables: &T,
     client: u32,
 ) -> Result<String, AllocError> {
-    shortened(alloc, tables.client_name(alloc, client)?)
+    short_name(alloc, tables.client_name(alloc, client)?)
 }
 
 /// A key in words: a text as it is, and else `key 3`.
@@ -40,7 +41,7 @@ pub(crate) fn key_name<T: LogTables>(
     tables: &T,
     key: u32,
 ) -> Result<String, AllocError> {
-    shortened(alloc, tables.key_name(alloc, key)?)
+    short_name(alloc, tables.key_name(alloc, key)?)
 }
 
 /// A value, cut where it is long.
@@ -49,7 +50,7 @@ pub(crate) fn value_name<T: LogTables>(
     tables: &T,
     value: u32,
 ) -> Result<String, AllocError> {
-    shortened(alloc, tables.value_name(alloc, value)?)
+    short_name(alloc, tables.value_name(alloc, value)?)
 }
 
 // A name, with a word before it if the name is no text in quotes.
@@ -155,7 +156,8 @@ pub(crate) fn fork_words<T: LogTables>(
     match stood.call {
         ClientCall::WriteTo(key, value) if is_effect => {
             let written = write_words(alloc, tables, key, value)?;
-            format!(in alloc; "the lost write of {written} by {client} takes effect")
+            let words = format!(in alloc; "the lost write of {written} by {client} takes effect")?;
+            with_notes(alloc, tables, words, stood.place)
         }
         _ => format!(in alloc;
             "the lost write of {client} comes after all that {client} had called before it"

@@ -1,9 +1,12 @@
-//! Names that are too long for a line.
+//! Names and notes that are too long for a line.
 
 use std::alloc::{AllocError, Global};
 
 /// How many letters of a longer name are shown.
-const MAX_LETTERS: usize = 60;
+const MAX_NAME: usize = 60;
+
+/// How many letters of a longer note are shown.
+const MAX_NOTE: usize = 200;
 
 /// What an escape of a JSON text has still to come.
 #[derive(Clone, Copy, Debug, PartialEq, Eq)]
@@ -28,24 +31,37 @@ impl Escape {
     }
 }
 
-/// A JSON text. If it is longer than some 60 letters, three dots within its quotes replace what is left out. No escape is cut.
-///
-/// Fails for want of memory alone. O(n) for a text of n letters.
-pub(crate) fn shortened(alloc: Global, text: String) -> Result<String, AllocError> {
-    if text.chars().count() <= MAX_LETTERS {
+/// A name, cut where it is long.
+pub(crate) fn short_name(alloc: Global, name: String) -> Result<String, AllocError> {
+    shortened(alloc, name, MAX_NAME)
+}
+
+/// A note, cut where it is long.
+pub(crate) fn short_note(alloc: Global, note: String) -> Result<String, AllocError> {
+    shortened(alloc, note, MAX_NOTE)
+}
+
+// A JSON text. If it is longer than some letters, three dots replace what is left out, within the quotes of a text that is cut. No escape
+// is cut.
+//
+// Fails for want of memory alone. O(n) for a text of n letters.
+fn shortened(alloc: Global, text: String, most: usize) -> Result<String, AllocError> {
+    if text.chars().count() <= most {
         return Ok(text);
     }
     let mut short = String::new(alloc);
     let mut letters: usize = 0;
     let mut escape = Escape::None;
+    let mut is_quoted = false;
     for character in text.chars() {
-        if escape == Escape::None && letters >= MAX_LETTERS {
+        if escape == Escape::None && letters >= most {
             break;
         }
         short.push(character)?;
         letters = letters.saturating_add(1);
+        is_quoted = is_quoted != (escape == Escape::None && character == '"');
         escape = escape.after(character);
     }
-    short.push_str("…\"")?;
+    short.push_str(if is_quoted { "…\"" } else { "…" })?;
     Ok(short)
 }

@@ -9,3 +9,4 @@ pub mod OneLogLaws
 pub mod QuickLaws
 pub mod ShownLaws
 pub mod NameLaws
+pub mod FormLaws

@@ -1,5 +1,5 @@
 -- The JSON forms of events.
-use Rattle.std.specs.Prelude.{ℕ, Bool, false, List, [], ◌∷◌, codes, nat_eq, Option, Some, None, option_map, option_and_then, if◌then◌else◌}
+use Rattle.std.specs.Prelude.{ℕ, Bool, false, List, [], ◌∷◌, ◌||◌, codes, nat_eq, Option, Some, None, option_map, option_and_then, if◌then◌else◌}
 use Rattle.std.specs.Cmp.Lexicographic.{pointwise}
 use Rattle.serde_json.specs.Data.{Data, null, string}
 use Rattle.operations.specs.Json.{elements}
@@ -49,15 +49,29 @@ abbrev pub answer_at : Data → Option SaidEnding
 answer_at null = Some nothing
 answer_at d = option_map answer (value_name d)
 
--- ["start", key, value], ["begin", client, call], ["end", client, answer], ["fail", client], ["lost", client]
-abbrev pub said_in : List Data → Option Said
-said_in (word ∷ client ∷ []) =
+-- the words of a call that ends without an answer
+abbrev pub is_unanswered : Data → Bool
+is_unanswered word = is_word (codes "fail") word || is_word (codes "lost") word
+
+-- ["fail", client], ["lost", client]
+abbrev pub unanswered_in : Data → Data → Option Said
+unanswered_in word client =
     if is_word (codes "fail") word then option_map (λ c. end c failed) (name_of client)
     else (if is_word (codes "lost") word then option_map (λ c. end c lost) (name_of client) else None)
+
+-- ["begin", client, call], ["end", client, answer]
+abbrev pub called_in : Data → Data → Data → Option Said
+called_in word client more =
+    if is_word (codes "begin") word then both begin (name_of client) (call_at more)
+    else (if is_word (codes "end") word then both end (name_of client) (answer_at more) else None)
+
+-- one of these, or ["start", key, value]. A begin, an end, a fail and a lost may each have one element more, a note: any value, which says nothing
+abbrev pub said_in : List Data → Option Said
+said_in (word ∷ client ∷ []) = unanswered_in word client
 said_in (word ∷ first ∷ second ∷ []) =
     if is_word (codes "start") word then both start (name_of first) (value_name second)
-    else (if is_word (codes "begin") word then both begin (name_of first) (call_at second)
-    else (if is_word (codes "end") word then both end (name_of first) (answer_at second) else None))
+    else (if is_unanswered word then unanswered_in word first else called_in word first second)
+said_in (word ∷ client ∷ more ∷ note ∷ []) = called_in word client more
 said_in ds = None
 
 -- the event that a JSON value says

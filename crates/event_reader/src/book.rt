@@ -1,24 +1,28 @@
 //! The log that lines give.
 
-ghost use Rattle.std.specs.Prelude.{◌≡◌, ◌<◌, [], IfErr, IfOk, IfSome, OnOk, length, slice_get, codes, Some, None, if◌then◌else◌};
+ghost use Rattle.std.specs.Prelude.{◌≡◌, ◌<◌, [], IfErr, IfOk, IfSome, OnOk, length, slice_get, string_bytes, codes, Some, None, if◌then◌else◌};
 ghost use Rattle.event_reader.specs.Names.{same_name, text_name};
 ghost use Rattle.event_reader.specs.Logs.{IsPending, MayFollow, call_of, client_number, ending_of, key_number, no_log, value_number};
 ghost use Rattle.event_reader.specs.Logs.{with_call, with_client, with_ending, with_event, with_key, with_value};
 ghost use Rattle.event_reader.specs.Readings.{AreNamed, Extends, IsCallNamed, IsEndingNamed, IsNamed};
 ghost use Rattle.event_reader.specs.Steps.{call_view, ending_view, name_in};
 ghost use Rattle.event_reader.specs.BookSteps.{IsEventFault};
+ghost use Rattle.event_reader.specs.Shown.{IsShown};
 
+use crate::forms::note_of;
 use crate::log_fault::LogFault;
 use crate::name_value::NameValue;
 use crate::names::Names;
+use crate::notes::{Note, Notes};
 use crate::refusal::{Reason, Refusal};
 use crate::said::{SaidCall, SaidEnding};
 use event_log::{EventLog, PushError};
 use events::{ClientCall, Ending, Event};
-use std::alloc::Global;
+use serde_json::Value;
+use std::alloc::{AllocError, Global};
 use std::marker::Model;
 
-/// A log: the tables of names, the events, and the line of each.
+/// A log: the tables of names, the events, and the line of each; and notes, which are no part of it.
 #[derive(Drop)]
 pub(crate) struct Book {
     clients: Names,
@@ -26,6 +30,7 @@ pub(crate) struct Book {
     values: Names,
     log: EventLog,
     lines: Vec<u32>,
+    notes: Notes,
 }
 
 impl Model for Book {
@@ -41,8 +46,8 @@ impl Model for Book {
 }
 
 impl Book {
-    /// A log of no lines.
-    pub(crate) fn new(alloc: Global) -> Book
+    /// A log of no lines, which keeps notes or none.
+    pub(crate) fn new(alloc: Global, keeps_notes: bool) -> Book
         ensures { result ≡ no_log }
     {
         Book {
@@ -51,6 +56,7 @@ impl Book {
             values: Names::new(alloc),
             log: EventLog::new(alloc),
             lines: Vec::new(alloc),
+            notes: Notes::new(alloc, keeps_notes),
         }
     }
 
@@ -206,6 +212,7 @@ impl Book {
             return Err(LogFault::Memory);
         };
         self.lines.reserve(1)?;
+        self.notes.follow(event, self.log.events())?;
         match self.log.push(event) {
             Ok(()) => {
                 self.log.events_are_log();
@@ -215,6 +222,36 @@ impl Book {
             Err(PushError::NotAllowed) => Err(LogFault::Refused(Refusal { reason, line })),
             Err(PushError::Memory) => Err(LogFault::Memory),
         }
+    }
+}
+
+impl Book {
+    /// Keeps the note of the line of the last event, if it has one.
+    pub(crate) fn add_note(
+        &mut self,
+        alloc: Global,
+        value: &Value,
+        line: u64,
+    ) -> Result<(), LogFault>
+        ensures log { self.new ≡ self.old }
+        ensures error { IfErr result (λ e. e ≡ LogFault.Memory) }
+    {
+        match note_of(value) {
+            Some((note, is_end)) => Ok(self.notes.add(alloc, note, is_end, line)?),
+            None => Ok(()),
+        }
+    }
+
+    /// The note on the begin or on the end of the call that began at a place, if one was kept.
+    pub(crate) fn note(
+        &self,
+        alloc: Global,
+        call: u32,
+        is_end: bool,
+    ) -> Result<Option<Note>, AllocError>
+        ensures { IfOk result (λ o. IfSome o (λ note. IsShown (string_bytes note.text))) }
+    {
+        self.notes.of_call(alloc, call, is_end)
     }
 }
 

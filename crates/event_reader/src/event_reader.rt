@@ -1,13 +1,15 @@
 //! Reading a log of events from a source.
 
-ghost use Rattle.std.specs.Prelude.{◌≡◌, ◌+◌, ◌<◌, ◌≤◌, max, [], IfErr, IfOk, OnOk, length, slice_get, Ok, Some};
+ghost use Rattle.std.specs.Prelude.{◌≡◌, ◌+◌, ◌<◌, ◌≤◌, max, [], IfErr, IfOk, IfSome, OnOk, length, slice_get, string_bytes, Ok, Some};
 ghost use Rattle.event_reader.specs.ReadSteps.{Reads, ReadsLine};
 ghost use Rattle.event_reader.specs.Readings.{AreNamed, Extends, FaultsAt, HasRead};
+ghost use Rattle.event_reader.specs.Shown.{IsShown};
 
 use crate::book::Book;
 use crate::limits::MAX_LINE_BYTES;
 use crate::log_fault::{LogFault, refused};
 use crate::names::Names;
+use crate::notes::Note;
 use crate::progress::Progress;
 use crate::refusal::Reason;
 use crate::taking::{take_line, take_rest};
@@ -42,15 +44,22 @@ impl Model for EventReader {
 }
 
 impl EventReader {
-    /// A reader that has read nothing.
+    /// A reader that has read nothing, and keeps no notes.
     pub fn new(alloc: Global) -> Result<EventReader, AllocError>
+        ensures { IfOk result (HasRead []) }
+    {
+        EventReader::keeping(alloc, false)
+    }
+
+    /// A reader that has read nothing, and keeps the notes of calls or none.
+    pub fn keeping(alloc: Global, notes: bool) -> Result<EventReader, AllocError>
         ensures { IfOk result (HasRead []) }
     {
         Ok(EventReader {
             alloc,
             lines: LineReader::new(alloc, MAX_LINE_BYTES)?,
             scratch: Scratch::new(alloc),
-            book: Book::new(alloc),
+            book: Book::new(alloc, notes),
             count: 0,
         })
     }
@@ -113,6 +122,11 @@ impl EventReader {
         Err(LogFault::Memory)
     }
 
+    /// The line that was read last, without its line feed: after a refusal the line that was refused, unless it is too long.
+    pub fn line(&self) -> &[u8] {
+        self.lines.line()
+    }
+
     /// The events so far.
     pub fn log(&self) -> &EventLog
         ensures { result.now ≡ self.now.log.events }
@@ -147,6 +161,16 @@ impl EventReader {
         ensures { slice_get self.now.log.lines place ≡ Some result }
     {
         self.book.line_of(place)
+    }
+
+    /// The note on the line of the begin of a call, or on that of its end, where there is one and notes are kept. The place is that of the
+    /// begin. No contract says which note it is.
+    ///
+    /// Fails for want of memory alone. O(n) for a note of n bytes.
+    pub fn note(&self, alloc: Global, call: u32, is_end: bool) -> Result<Option<Note>, AllocError>
+        ensures { IfOk result (λ o. IfSome o (λ note. IsShown (string_bytes note.text))) }
+    {
+        self.book.note(alloc, call, is_end)
     }
 
     /// Each number of an event has a name. The method does nothing: what it ensures is the law.

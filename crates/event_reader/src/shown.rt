@@ -77,16 +77,24 @@ fn push_escape(text: &mut String, code: u32) -> Result<(), AllocError>
     push_plain(text, hex_digit(code % 16))
 }
 
+// Writes a character as it is, or as an escape where it is not plain.
+fn push_visible(text: &mut String, c: char) -> Result<(), AllocError>
+    ensures { OnOk result (StaysShown (string_bytes text.old) (string_bytes text.new)) }
+{
+    if is_plain(c) {
+        push_plain(text, c)
+    } else {
+        push_escape(text, u32::from(c))
+    }
+}
+
 fn push_character(text: &mut String, c: char) -> Result<(), AllocError>
     ensures { OnOk result (StaysShown (string_bytes text.old) (string_bytes text.new)) }
 {
-    if !is_plain(c) {
-        return push_escape(text, u32::from(c));
-    }
     if c == '"' || c == '\\' {
         push_plain(text, '\\')?;
     }
-    push_plain(text, c)
+    push_visible(text, c)
 }
 
 /// Writes the characters of a text, as they are in a JSON text.
@@ -95,6 +103,16 @@ pub(crate) fn push_shown(text: &mut String, shown: &str) -> Result<(), AllocErro
 {
     for c in shown.chars() {
         push_character(text, c)?;
+    }
+    Ok(())
+}
+
+/// Writes a compact JSON text. Only in its texts are characters that are not plain.
+pub(crate) fn push_json(text: &mut String, json: &str) -> Result<(), AllocError>
+    ensures { OnOk result (StaysShown (string_bytes text.old) (string_bytes text.new)) }
+{
+    for c in json.chars() {
+        push_visible(text, c)?;
     }
     Ok(())
 }

@@ -102,14 +102,17 @@ pub(crate) fn take_said(book: &mut Book, said: Said<'_>, line: u64) -> Result<()
     }
 }
 
-// Adds what a JSON value says, from the line with this number.
-fn take_value(book: &mut Book, value: &Value, line: u64) -> Result<(), LogFault>
+// Adds what a JSON value says, from the line with this number, and its note.
+fn take_value(alloc: Global, book: &mut Book, value: &Value, line: u64) -> Result<(), LogFault>
     ensures added { OnOk result (AddsValue line book.old (view value.now) book.new) }
     ensures fault { IfErr result (IsValueFault book.old (view value.now) line) }
     ensures extends { Extends book.old book.new }
 {
     match said_at(value) {
-        Some(said) => take_said(book, said, line),
+        Some(said) => {
+            take_said(book, said, line)?;
+            book.add_note(alloc, value, line)
+        }
         None => Err(refused(Reason::NoForm, line)),
     }
 }
@@ -125,7 +128,7 @@ fn take_any(alloc: Global, book: &mut Book, text: &[u8], line: u64) -> Result<()
         Content::Blank => Ok(()),
         Content::NotJson => Err(refused(Reason::NotJson, line)),
         Content::Json(value) => {
-            let taken = take_value(book, &value, line);
+            let taken = take_value(alloc, book, &value, line);
             drop(value);
             taken
         }
@@ -166,7 +169,7 @@ pub(crate) fn take_rest(
         Content::Blank => Ok(false),
         Content::NotJson => Ok(true),
         Content::Json(value) => {
-            let taken = take_value(book, &value, line);
+            let taken = take_value(alloc, book, &value, line);
             drop(value);
             match taken {
                 Ok(()) => Ok(false),
