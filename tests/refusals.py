@@ -3,13 +3,14 @@
 
     python3 tests/refusals.py SEED COUNT -- PROGRAM
 
-Each row of the table of docs/refusals.md has the line of a refusal, the words of a command, an input and the line that `--why` adds: the
-program has to write both lines, and end with status 1. An input that begins with `python:` is what that expression gives.
+Each row of the tables of docs/refusals.md has the line of a refusal, the words of a command, an input and the line that `--why` adds: the
+program has to write both lines, and end with status 1. An input that begins with `python:` is what that expression gives. On a log of
+events the second line is always there, and FORMS in it stands for what the page's last block says.
 
 Then it gives the program so many mangled inputs (of mangled.py) with `--why`. Where one is refused, the first line has to be that of the
 plain reader, and the second has to be one line of printable ASCII that names a place which is right: the operation or the step that it
-names begins at the byte that it names, a text that is no JSON goes wrong where Python's own reader says so, and an operation has the
-fault that is told. Where one is not refused, standard error stays empty.
+names begins at the byte that it names, a text that is no JSON goes wrong where Python's own reader says so, at the line and the column
+that are named, and an operation has the fault that is told. Where one is not refused, standard error stays empty.
 """
 
 import argparse
@@ -32,7 +33,10 @@ COMMANDS = (("judge",), ("judge", "--long"), ("check",), ("explain", "--json"), 
 PAIRED = ("check", "refute")
 OPERATION = re.compile(r"session (\d+), operation (\d+) \(byte (\d+)\): (.*)")
 STEP = re.compile(r"step (\d+) \(byte (\d+)\): ")
-NO_JSON = re.compile(r"the text is no JSON: (.*) at byte (\d+)(, where the text ends|, which is in no object)?")
+NO_JSON = re.compile(
+    r"the text is no JSON: (?P<fault>.*) at byte (?P<byte>\d+)(?: \(line (?P<line>\d+), column (?P<column>\d+)\))?"
+    r"(?:, (?:where|which) [^;]*)?(?:; this looks like a log of events: .*)?"
+)
 BYTE = re.compile(r"[( ]byte (\d+)")
 BLANKS = re.compile(r"[ \t\n\r]*")
 MOST_DEEP = 127
@@ -49,15 +53,18 @@ DECODER = json.JSONDecoder(parse_int=replay.number_of, parse_float=replay.number
 
 def rows_of(page):
     """The rows of the table: a line, the words of a command, an input and a second line."""
+    forms = page.split("\n    ")[-1].strip()
     for found in ROW.finditer(page):
         line, words, text, why = found.groups()
+        why = why.replace("FORMS", forms)
         made = eval(text.removeprefix("python:")) if text.startswith("python:") else text  # pylint: disable=eval-used
         yield line, words.split(), made.encode(), why
 
 
 def said(program, words, data):
     """The status of a run and the two outputs."""
-    done = subprocess.run([*program, *words, "--why"], input=data, capture_output=True, check=False, timeout=120)
+    asking = [] if words[0] == "events" else ["--why"]
+    done = subprocess.run([*program, *words, *asking], input=data, capture_output=True, check=False, timeout=120)
     return done.returncode, done.stdout, done.stderr
 
 
@@ -153,6 +160,15 @@ def is_too_deep(data, byte):
     return depth == MOST_DEEP and data[byte : byte + 1] in (b"[", b"{")
 
 
+def is_text_place_right(data, fault):
+    """Whether the line and the column that are named are those of the byte, and are named where it is not on the first line."""
+    before = data[: int(fault["byte"])].split(b"\n")
+    if len(before) == 1:
+        return fault["line"] is None
+    column = len(before[-1].decode()) + 1
+    return (fault["line"], fault["column"]) == (str(len(before)), str(column))
+
+
 def is_fault_right(data, byte):
     """Whether a text goes wrong at a byte. Python goes on into numbers and words that are none: then it stops in the token of the byte.
     Of texts, colons, depths and numbers it says another place, or none."""
@@ -173,9 +189,11 @@ def is_place_right(words, data, why):
         return is_operation_right(base, data, operation)
     if step:
         return begins_at(data, (2, int(step[1])), int(step[2]))
-    if fault and fault[1].startswith("more than 127 lists"):
-        return is_too_deep(data, int(fault[2]))
-    return is_fault_right(data, int(fault[2])) if fault else True
+    if not fault:
+        return True
+    if fault["fault"].startswith("more than 127 lists"):
+        return is_too_deep(data, int(fault["byte"]))
+    return is_text_place_right(data, fault) and is_fault_right(data, int(fault["byte"]))
 
 
 def is_right(words, data, due, found):
@@ -210,7 +228,7 @@ def main():
     rows = list(rows_of(PAGE.read_text(encoding="utf-8")))
     numbers = {line.split()[1] for line, *_ in rows}
     cases = [is_as_shown(given.program, row) for row in rows]
-    cases += [number in numbers for number in "1 2 3 4 5 6 7 9 10 20 21 23 26 27 28 29".split()]
+    cases += [number in numbers for number in "1 2 3 4 5 6 7 9 10 20 21 23 26 27 28 29 30".split()]
     cases += tried(given.program, given.seed, given.count)
     end(sum(cases), len(cases) - sum(cases))
 

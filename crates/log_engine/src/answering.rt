@@ -21,19 +21,21 @@ use std::thread::Threads;
 
 /// Reads a log to its end, makes the whole answer, and then writes it.
 ///
-/// It writes nothing before the answer is made: after every error except a write fault the writer is unchanged.
+/// It writes nothing before the answer is made: after every error except a write fault the writer is unchanged. It appends what is said
+/// of a line that is refused.
 pub(crate) fn answer_log<P: Threads + Wait + Sync + AllocGlobal, R: Source, W: Write>(
     rt: &P,
     source: &mut R,
     writer: &mut W,
     order: &LogOrder,
+    told: &mut String,
 ) -> Result<Followed, LogError>
     ensures answered { IfOk result (AnswersLog order.now (R.remaining source.old) (R.remaining source.new)
         (W.contents writer.old) (W.contents writer.new)) }
     ensures error { IfErr result (IsLogError (R.remaining source.old)) }
     ensures unwritten { IfErr result (λ e. e ≢ LogError.WriteFault → writer.new ≡ writer.old) }
 {
-    let whole = read_log(rt.alloc(), source)?;
+    let whole = read_log(rt.alloc(), source, shows_notes(order), told)?;
     let torn = whole.torn;
     let answer = answer_to(rt, rt.alloc(), whole.reader, order)?;
     write_output(writer, answer.text.as_bytes())?;
@@ -41,6 +43,14 @@ pub(crate) fn answer_log<P: Threads + Wait + Sync + AllocGlobal, R: Source, W: W
         outcome: answer.outcome,
         torn,
     })
+}
+
+// Whether the answer to a log shows notes.
+fn shows_notes(order: &LogOrder) -> bool {
+    match order {
+        LogOrder::Explain(_) | LogOrder::ListFaults(_, _) => true,
+        LogOrder::Judge(_) | LogOrder::WriteHistory | LogOrder::WriteNames => false,
+    }
 }
 
 // The answer to a log.

@@ -30,13 +30,15 @@ pub struct Followed {
 ///
 /// Fails with the first line that is refused, for want of memory, and where the source or the writer fails; also with `Memory` if
 /// `every` is 0, which no command line gives. After every error except a write fault it has written nothing, or with `every` the lines
-/// on some first cuts, each as expected. O(n (k + log n)) for a history of n operations in k sessions, for each cut, and the cost of
+/// on some first cuts, each as expected. Of a line that is refused it appends what `error_lines` says of it besides its reason.
+/// O(n (k + log n)) for a history of n operations in k sessions, for each cut, and the cost of
 /// reading.
 pub fn follow_log<P: Threads + Wait + Sync + AllocGlobal, R: Source, W: Write>(
     rt: &P,
     source: &mut R,
     writer: &mut W,
     order: &LogOrder,
+    told: &mut String,
 ) -> Result<Followed, LogError>
     ensures followed { IfOk result (FollowsLog order.now (R.remaining source.old) (R.remaining source.new)
         (W.contents writer.old) (W.contents writer.new)) }
@@ -60,8 +62,8 @@ pub fn follow_log<P: Threads + Wait + Sync + AllocGlobal, R: Source, W: Write>(
                 expected: *expected,
                 every: *every,
             };
-            watch_log(&watch, source, writer)
+            watch_log(&watch, source, writer, told)
         }
-        _ => answer_log(rt, source, writer, order),
+        _ => answer_log(rt, source, writer, order, told),
     }
 }

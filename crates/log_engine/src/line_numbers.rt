@@ -19,7 +19,8 @@ pub fn call_lines(alloc: Global, log: &[u8]) -> Result<String, LogError>
     ensures { IfErr result (IsLogError (Some log.now)) }
 {
     let mut rest = log;
-    let whole = read_log(alloc, &mut rest)?;
+    let mut told = String::new(alloc);
+    let whole = read_log(alloc, &mut rest, false, &mut told)?;
     let text = lines_text(alloc, &whole.reader);
     drop(whole);
     match text {

@@ -2,8 +2,8 @@
 
 use causal_order::Rows;
 use event_log::LoggedCall;
-use event_names::{LogTables, StoodFor};
-use event_reader::{EventReader, Names};
+use event_names::{CallNote, LogTables, StoodFor};
+use event_reader::{EventReader, Names, Note};
 use operations::OpId;
 use std::alloc::{AllocError, Global};
 
@@ -39,8 +39,8 @@ pub(crate) fn line_at(reader: &EventReader, place: u32) -> u32 {
     }
 }
 
-// The name of this number, or the number itself where there is none.
-fn name_in(alloc: Global, names: &Names, number: u32) -> Result<String, AllocError> {
+/// The name of this number, or the number itself where there is none.
+pub(crate) fn name_in(alloc: Global, names: &Names, number: u32) -> Result<String, AllocError> {
     if (number as usize) < names.len() {
         names.text(alloc, number)
     } else {
@@ -81,6 +81,18 @@ impl LogTables for Tables<'_> {
 
     fn value_name(&self, alloc: Global, value: u32) -> Result<String, AllocError> {
         name_in(alloc, self.reader.values(), value)
+    }
+
+    fn note(
+        &self,
+        alloc: Global,
+        place: u32,
+        is_end: bool,
+    ) -> Result<Option<CallNote>, AllocError> {
+        match self.reader.note(alloc, place, is_end)? {
+            Some(Note { line, text }) => Ok(Some(CallNote { line, text })),
+            None => Ok(None),
+        }
     }
 
     fn left_out(&self) -> &[(u32, u32)] {

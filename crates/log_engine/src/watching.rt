@@ -7,6 +7,7 @@ ghost use Rattle.log_engine.specs.Steps.Watching.{HasWatched, IsTurn, WritesLast
 
 use crate::failure::LogError;
 use crate::following::Followed;
+use crate::telling::tell;
 use crate::turn::write_cut;
 use command_line::Expected;
 use engine::SessionWork;
@@ -28,11 +29,12 @@ pub(crate) struct Watch<'a, K> {
 /// Judges a log after each so many events and at its end, and writes a line on each of these cuts before it reads on. It ends early at
 /// the first cut whose outcome is not the expected one.
 ///
-/// Each cut is judged whole. Lines that were written before an error stay written.
+/// Each cut is judged whole. Lines that were written before an error stay written. What is said of a line that is refused is appended.
 pub(crate) fn watch_log<K: SessionWork, R: Source, W: Write>(
     watch: &Watch<'_, K>,
     source: &mut R,
     writer: &mut W,
+    told: &mut String,
 ) -> Result<Followed, LogError>
     requires { K.can_work watch.now.work.now }
     ensures watched { IfOk result (WatchesLog watch.now.every watch.now.expected (R.remaining source.old) (R.remaining source.new)
@@ -43,6 +45,7 @@ pub(crate) fn watch_log<K: SessionWork, R: Source, W: Write>(
 {
     let mut reader = EventReader::new(watch.alloc)?;
     let followed = watch_from(watch, &mut reader, source, writer);
+    tell(watch.alloc, &reader, &followed, told);
     drop(reader);
     followed
 }

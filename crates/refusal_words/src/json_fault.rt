@@ -71,11 +71,34 @@ pub(crate) const NO_TEXT: JsonFault = JsonFault {
     after: "",
 };
 
-/// A list after the whole text, as in a log of events or in lines of histories.
+/// Bytes that are no text.
+pub(crate) const BINARY: JsonFault = JsonFault {
+    before: "binary data",
+    after: "",
+};
+
+/// Words without quotes, before any list.
+pub(crate) const PLAIN_TEXT: JsonFault = JsonFault {
+    before: "plain text",
+    after: ", where a list is expected",
+};
+
+/// A single quote.
+pub(crate) const SINGLE_QUOTE: JsonFault = JsonFault {
+    before: "a single quote",
+    after: ", where JSON has a double one",
+};
+
+/// A list after the whole text, as in lines of histories.
 pub(crate) const SECOND_LIST: JsonFault = JsonFault {
     before: "expected the end of the text",
-    after: ", where another list begins: judge and explain read a log of events with --long --events, and \
-        judge --lines reads a history a line",
+    after: ", where another list begins: judge --lines reads a history a line",
+};
+
+/// A list after an event of a log.
+pub(crate) const SECOND_EVENT: JsonFault = JsonFault {
+    before: "expected the end of the text",
+    after: ", where another list begins",
 };
 
 /// A text that a colon follows, where a value is expected.
@@ -84,10 +107,16 @@ pub(crate) const KEY: JsonFault = JsonFault {
     after: ", which is in no object",
 };
 
-/// A text that does not end, or that has a wrong escape or a control character.
+/// A text that does not end, or not on its line.
+pub(crate) const NO_QUOTE: JsonFault = JsonFault {
+    before: "the text that begins",
+    after: " has no closing quote",
+};
+
+/// A text that has a wrong escape or a control character.
 pub(crate) const BAD_TEXT: JsonFault = JsonFault {
     before: "the text that begins",
-    after: " has no end, a wrong escape or a control character",
+    after: " has a wrong escape or a control character",
 };
 
 /// A number that is too large.
@@ -110,10 +139,18 @@ pub(crate) fn other_than(expected: Expected) -> JsonFault {
     }
 }
 
-/// The fault where the text ends before this.
+/// The fault where the text ends before this, outside all lists and objects.
 pub(crate) fn ends_before(expected: Expected) -> JsonFault {
     JsonFault {
         before: expected.words(),
         after: ", where the text ends",
+    }
+}
+
+/// The fault where the text ends before this, in a list or an object.
+pub(crate) fn breaks_off_before(expected: Expected) -> JsonFault {
+    JsonFault {
+        before: expected.words(),
+        after: ", where the text breaks off: a closing bracket is missing",
     }
 }

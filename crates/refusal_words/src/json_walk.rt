@@ -1,9 +1,13 @@
 //! Where a text is no JSON.
 
+use crate::beginnings::beginning_fault;
 use crate::comma::comma_before;
+use crate::guesses::is_log;
 use crate::json_fault::{
-    BAD_TEXT, DEEP, Expected, JsonFault, KEY, LARGE, NO_TEXT, SECOND_LIST, ends_before, other_than,
+    DEEP, Expected, JsonFault, KEY, LARGE, SECOND_EVENT, SECOND_LIST, breaks_off_before,
+    ends_before, other_than,
 };
+use crate::no_token::{no_text_fault, no_token_fault};
 use bounded_json::{MAX_DEPTH, TextError, read_value};
 use json::{Reader, Scratch, Token};
 use operations::HistoryPlace;
@@ -100,7 +104,16 @@ impl<'a> Walk<'a> {
         let end = self.text.len();
         match self.expected(end) {
             Expected::End => None,
-            expected => Some((end, ends_before(expected))),
+            expected => Some((end, self.fault_of_end(expected))),
+        }
+    }
+
+    // The fault of a text that ends before this.
+    fn fault_of_end(&self, expected: Expected) -> JsonFault {
+        if self.nests.is_empty() {
+            ends_before(expected)
+        } else {
+            breaks_off_before(expected)
         }
     }
 
@@ -112,10 +125,15 @@ impl<'a> Walk<'a> {
         }
         let fault = match token {
             Token::Key(_) if expected.is_value() && !self.is_in_object() => KEY,
-            Token::Bad if byte >= self.text.len() => ends_before(expected),
-            Token::Bad
-                if begins_text(self.text, byte)
-                    && !matches!(expected, Expected::List | Expected::Object) => BAD_TEXT,
+            Token::Bad if byte >= self.text.len() => self.fault_of_end(expected),
+            Token::Bad => {
+                no_token_fault(
+                    self.text,
+                    byte,
+                    expected,
+                    matches!(self.last, Last::Nothing),
+                )
+            }
             _ => other_than(expected),
         };
         (byte, fault)
@@ -131,16 +149,14 @@ fn after_value(nest: Nest, has_comma: bool) -> Expected {
     }
 }
 
-fn begins_text(text: &str, byte: usize) -> bool {
-    text.as_bytes().get(byte) == Some(&b'"')
-}
-
 // The fault of what comes after a whole text.
 fn fault_after_end(text: &str, byte: usize) -> JsonFault {
-    if text.as_bytes().get(byte) == Some(&b'[') {
-        SECOND_LIST
-    } else {
+    if text.as_bytes().get(byte) != Some(&b'[') {
         other_than(Expected::End)
+    } else if is_log(text) {
+        SECOND_EVENT
+    } else {
+        SECOND_LIST
     }
 }
 
@@ -203,8 +219,11 @@ pub(crate) fn json_fault(
     alloc: Global,
     bytes: &[u8],
 ) -> Result<Option<(usize, JsonFault)>, AllocError> {
+    if let Some(fault) = beginning_fault(bytes) {
+        return Ok(Some((0, fault)));
+    }
     match simdutf8::compat::from_utf8(bytes) {
         Ok(text) => fault_in_text(alloc, text),
-        Err(error) => Ok(Some((error.valid_up_to(), NO_TEXT))),
+        Err(error) => Ok(Some((error.valid_up_to(), no_text_fault(bytes)))),
     }
 }

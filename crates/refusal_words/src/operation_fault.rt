@@ -2,6 +2,7 @@
 
 use crate::call_form::{CallForm, Returned};
 use crate::calls::call_named;
+use crate::line_rest::is_fraction;
 use crate::object_words::is_keyed;
 use operations::{ObjectName, elements_of};
 use serde_json::Value;
@@ -25,6 +26,13 @@ pub(crate) enum OperationFault {
 const NO_KEY: &str = "is no whole number below 4294967296";
 
 const NO_VALUE: &str = "is no whole number below 18446744073709551616";
+
+// The same of a fraction or a larger number, and of a null that is written.
+const NO_FRACTION: &str =
+    "is no whole number below 18446744073709551616; a log of events has such a number as a text";
+
+const NO_NULL: &str =
+    r#"is no whole number below 18446744073709551616; a log of events has ["d",KEY] for a delete"#;
 
 /// What is wrong with an operation of an object, where anything is.
 pub(crate) fn operation_fault(object: ObjectName, operation: &Value) -> Option<OperationFault> {
@@ -74,7 +82,20 @@ fn fault_behind(call: CallForm, elements: &[Value], index: usize) -> Option<Oper
         Some(value) if value.as_u64().is_some() => {
             return_fault(call.returned, elements, index.saturating_add(1))
         }
-        Some(_) => Some(OperationFault::Wrong(argument, index, NO_VALUE)),
+        Some(value) => Some(OperationFault::Wrong(argument, index, value_words(argument, value))),
+    }
+}
+
+// What is wrong with a value that is none.
+fn value_words(argument: &str, value: &Value) -> &'static str {
+    if argument != "value" {
+        NO_VALUE
+    } else if is_fraction(value) {
+        NO_FRACTION
+    } else if value.is_null() {
+        NO_NULL
+    } else {
+        NO_VALUE
     }
 }
 

@@ -41,13 +41,25 @@ fn fault_words(
     match fault {
         OperationFault::NoWord => no_form(alloc, object, operation),
         OperationFault::UnknownWord => {
-            no_word(alloc, operation, name_words(object), forms_words(object))
+            let words = no_word(alloc, operation, name_words(object), forms_words(object))?;
+            let hint = word_hint(object, element_text(alloc, operation, 0)?);
+            format!(in alloc; "{words}{hint}")
         }
         OperationFault::Lacks(lacked) => lacks(alloc, object, lacked),
         OperationFault::Wrong(named, index, words) => {
             wrong(alloc, named, element_text(alloc, operation, index)?, words)
         }
         OperationFault::TooMany(most) => too_many(alloc, operation, most),
+    }
+}
+
+// What to record instead of an operation with this word.
+fn word_hint(object: ObjectName, word: &str) -> &'static str {
+    match object {
+        ObjectName::Register | ObjectName::Memory if word == "\"cas\"" => {
+            "; a compare-and-set that succeeded is a write of its new value"
+        }
+        _ => "",
     }
 }
 

@@ -1,8 +1,8 @@
 //! What the line on a text that is no history, or no script, says after its beginning: the place, and what is wanted.
 
 use crate::element::object_at;
-use crate::json_fault::JsonFault;
-use crate::json_walk::json_fault;
+use crate::guesses::is_log;
+use crate::json_rest::json_rest;
 use crate::object_words::OBJECTS;
 use crate::operation_words::operation_words;
 use crate::part::{Part, length_of, part_at, whole};
@@ -12,6 +12,11 @@ use crate::sessions::{SessionFault, session_with};
 use crate::shape::shape_words;
 use operations::{ObjectName, OpId, ReadError};
 use std::alloc::{AllocError, Global};
+
+// How to read a log of events.
+const LOG: &str =
+    "; this looks like a log of events: judge FILE and explain FILE read it, judge --events and explain --events from \
+        standard input";
 
 // How to judge a memory that is over the limits.
 const LONGER: &str = "; --long judges a memory of any length";
@@ -25,9 +30,29 @@ pub(crate) fn text_rest(
     form: InputForm,
     error: ReadError,
 ) -> Result<String, AllocError> {
-    if matches!(error, ReadError::NotJson) {
-        return json_rest(alloc, input);
+    let words = if matches!(error, ReadError::NotJson) {
+        json_rest(alloc, input)?
+    } else {
+        rest_of_json(alloc, input, form, error)?
+    };
+    let hint = log_hint(input, error);
+    format!(in alloc; "{words}{hint}")
+}
+
+// How to read an input that looks like a log, where it is no JSON or its shape is wrong.
+fn log_hint(input: &[u8], error: ReadError) -> &'static str {
+    match (error, simdutf8::compat::from_utf8(input)) {
+        (ReadError::NotJson | ReadError::BadShape, Ok(text)) if is_log(text) => LOG,
+        _ => "",
     }
+}
+
+fn rest_of_json(
+    alloc: Global,
+    input: &[u8],
+    form: InputForm,
+    error: ReadError,
+) -> Result<String, AllocError> {
     match simdutf8::compat::from_utf8(input) {
         Ok(text) => rest_of_text(alloc, text, form, error),
         Err(_) => Ok(String::new(alloc)),
@@ -45,18 +70,6 @@ fn rest_of_text(
     }
     match history_in(alloc, text, form) {
         Ok(Some(history)) => rest_in(alloc, history, form, error),
-        Ok(None) => Ok(String::new(alloc)),
-        Err(error) => Err(error),
-    }
-}
-
-// Where the bytes are no JSON, and what is wrong there.
-fn json_rest(alloc: Global, input: &[u8]) -> Result<String, AllocError> {
-    match json_fault(alloc, input) {
-        Ok(Some((byte, fault))) => {
-            let JsonFault { before, after } = fault;
-            format!(in alloc; ": {before} at byte {byte}{after}")
-        }
         Ok(None) => Ok(String::new(alloc)),
         Err(error) => Err(error),
     }
