@@ -111,13 +111,17 @@ class Browser:
 
     def open(self, path):
         """Opens a file, and gives the seconds until its script had run and a frame was drawn."""
-        self.messages, self.requests = [], []
-        self.seen.clear()
         begun = time.monotonic()
-        self.ask("Page.navigate", url=f"file://{path}")
-        self.wait("Page.loadEventFired")
+        self.show(f"file://{path}")
         self.settle()
         return time.monotonic() - begun
+
+    def show(self, address):
+        """Opens an address, and waits until it is loaded."""
+        self.messages, self.requests = [], []
+        self.seen.clear()
+        self.ask("Page.navigate", url=address)
+        self.wait("Page.loadEventFired")
 
     def settle(self):
         """Waits until two frames were drawn."""

@@ -17,7 +17,7 @@ function answersOf(made, [history, ...texts]) {
     pieces: operations.map((_, op) => made.operationPieces(run, named, op)), sessions: Array.from({length: run.sessions}, (_, s) => named.session(s)),
     verdicts: verdicts.map(({criterion, answer, fault, twin}) => ({criterion, answer, twin: twin && twin.criterion, words: fault && words(fault)})),
     faults: faults.slice(0, MOST_FAULTS).map(fault => ({kind: fault.kind, read: place(fault.read), missed: place(fault.missed),
-      source: place(fault.source), isListed: fault.listed, sentence: made.plainText([made.faultSentence(run, named, fault)]), guarantee: made.guaranteeOf(run, fault),
+      source: place(fault.source), cycle: [...fault.cycle].map(place), isListed: fault.listed, sentence: made.plainText([made.faultSentence(run, named, fault)]), guarantee: made.guaranteeOf(run, fault),
       steps: stepsOf(made, run, fault, place), plans: WIDTHS.map(width => planOf(made, run, fault, width))})),
     many: faults.length,
   };

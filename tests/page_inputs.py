@@ -17,7 +17,8 @@ LOG = ["--long", "--events"]
 
 
 class Page(NamedTuple):
-    """A page: the four texts that it holds, the words of `explain`, and the page that the program writes, where it has that option."""
+    """A page: the four texts that it holds, the words of `explain`, what it lists and draws without its script, and the page that the
+    program writes, where it has that option."""
 
     name: str
     history: str
@@ -25,10 +26,12 @@ class Page(NamedTuple):
     names: str
     lines: str
     words: str
+    listed: str
+    picture: str
     written: Optional[str]
 
     def joined(self):
-        return page_parts.joined(*self.texts())
+        return page_parts.joined(*self.texts(), said=(self.words, self.listed, self.picture))
 
     def texts(self):
         """The four texts as the page holds them."""
@@ -58,9 +61,10 @@ def page_of(program, name, data, options=()):
     is_log = "--events" in options
     history, names = (said(program, ["events", *words], data)[1] for words in ([], ["--names"])) if is_log else (data.decode(), "null")
     lines = lines_of(data) if is_log else "null"
-    words = said(program, ["explain", *options], data)[1]
+    forms = ([], ["--all", page_parts.most_said()], ["--svg"])
+    static = [said(program, ["explain", *options, *words], data)[1] for words in forms]
     status, written = said(program, ["explain", *options, "--html"], data)
-    return Page(name, history, report, names, lines, words, None if status == USAGE else written)
+    return Page(name, history, report, names, lines, *static, None if status == USAGE else written)
 
 
 def of_examples(program):

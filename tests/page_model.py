@@ -9,7 +9,7 @@ import page_parts
 import reading
 from explained import sections
 from page_inputs import Page
-from patterns import MemoryHistory
+from patterns import MemoryHistory, line_pair, link_ends
 
 ANSWERS = pathlib.Path(__file__).resolve().parent / "page_answers.js"
 MOST_SECONDS, NEAREST = 300, 6
@@ -106,6 +106,37 @@ def step_faults(page, answer):
         yield f"the steps of fault {number} of {page.name}: {fault['steps']}", holds
 
 
+def cycle_of(known, kind, parts):
+    """The operations of a cycle: the ends of its links, or those of the lines of a derivation that its last line joins."""
+    if kind == "CyclicCO":
+        return {tuple(op) for op in parts[0]}
+    if kind == "CyclicCF":
+        return {op for link in parts[0] for op in link_ends(known, link)}
+    if kind != "CyclicHB":
+        return set()
+    pairs, joined, found = [], {len(parts[1]) - 1}, set()
+    for line in parts[1]:
+        pairs.append(line_pair(known, tuple(parts[0]), pairs, line))
+    for at in reversed(range(len(pairs))):
+        word, *rest = parts[1][at]
+        if at in joined and word == "tr":
+            joined |= set(rest)
+        elif at in joined:
+            found |= set(pairs[at])
+    return found
+
+
+def cycle_faults(page, answer):
+    """Whether the operations of each cycle are marked, and no others are."""
+    start, sessions = reading.read_long(page.history.encode())
+    known = MemoryHistory(sessions, start)
+    patterns = [shown for _, said, shown in json.loads(page.report)[0] if said == "no" and isinstance(shown, list)]
+    due = {json.dumps(pattern): cycle_of(known, pattern[0], pattern[1:]) for pattern in patterns}
+    found = [{tuple(op) for op in fault["cycle"]} for fault in answer["faults"] if fault["cycle"]]
+    wanted = [cycle for cycle in due.values() if cycle]
+    yield f"the cycles of {page.name}: {found} and not {wanted}", found == wanted
+
+
 def pieces_of(link):
     """The three straight pieces of a link, each by its least and greatest place."""
     (x0, y0), (x1, y1), x = link["from"], link["to"], link["x"]
@@ -140,7 +171,8 @@ def exact_faults():
     history = f'[ "m\\u0065mory",\n[[["w",4294967295,{HUGE}],["w",0,9007199254740993],["r",4294967295,{HUGE - 1}]]] , [[1,{HUGE - 2}]]]'
     names = f'[[{HUGE},"{HUGE}"],["a\\"{HUGE}",{HUGE - 1}],[-9223372036854775808,"-9223372036854775808",true,"true"]]'
     yes, of_log = '[[["cc","yes",null]],null]', '["memory",[[["w",0,1],["w",2,3]],[["r",0,5],["r",2,7]]]]'
-    numbers, named = asked([Page("exact", history, yes, "null", "null", "", None), Page("named", of_log, yes, names, "null", "", None)])
+    none = ("", "", "", None)
+    numbers, named = asked([Page("exact", history, yes, "null", "null", *none), Page("named", of_log, yes, names, "null", *none)])
     due = [str(HUGE), "9007199254740993", str(HUGE - 1), str(HUGE - 2), "0"]
     yield f"exact numbers: {numbers['values']}", numbers["values"] == due and numbers["keys"] == ["4294967295", "0", "1"]
     yield f"exact names: {named['sessions']}", named["sessions"] == [f"client {HUGE}", f'"{HUGE}"']
@@ -158,4 +190,5 @@ def faults(pages):
         yield from listed_faults(page, answer)
         if json.loads(page.history)[0] == "memory":
             yield from step_faults(page, answer)
+            yield from cycle_faults(page, answer)
             yield from plan_faults(page, answer)

@@ -2,7 +2,7 @@
 """The pieces of the page of `explain --html`, as crates/page has them, and pages that are joined from them.
 
     python3 tests/page_parts.py --write                        # writes the hashes of the script and the style anew
-    python3 tests/page_parts.py HISTORY REPORT [NAMES LINES] > PAGE  # joins a page from files
+    python3 tests/page_parts.py HISTORY REPORT [NAMES LINES] > PAGE  # joins a page from files, which says nothing without its script
 
 The order of the pieces is that which crates/page/src/frame.rt states at its head.
 """
@@ -17,12 +17,18 @@ SOURCES = pathlib.Path(__file__).resolve().parent.parent / "crates" / "page" / "
 FILES = ("frame.rt", "style.rt", "script.rt", "zooming.rt", "drawing.rt", "hashes.rt")
 CONSTANT = re.compile(r'^pub const ([A-Z_]+): &str = r#"(.*?)"#;$', re.MULTILINE | re.DOTALL)
 POLICY = re.compile(r"(script-src ')[^']*(';\nstyle-src ')[^']*(')")
+MOST_SAID = re.compile(r"^pub const MOST_SAID: u32 = (\d+);$", re.MULTILINE)
 HASHES = re.compile(r'((?:SCRIPT|STYLE)_HASH: &str = r#")[^"]*(")')
 
 
 def pieces():
     """The constants of the page, by name."""
     return {name: text for file in FILES for name, text in CONSTANT.findall((SOURCES / file).read_text(encoding="ascii"))}
+
+
+def most_said():
+    """How many reads a page lists at most without its script."""
+    return MOST_SAID.search((SOURCES / "frame.rt").read_text(encoding="ascii"))[1]
 
 
 def script_of(parts):
@@ -40,13 +46,19 @@ def in_script(text):
     return text.replace("<", "\\u003c")
 
 
-def joined(history, report, names="null", lines="null"):
-    """A page of four JSON texts, as they are."""
-    parts = pieces()
+def in_markup(text):
+    """A text as an element shows it: it begins no element, since it has no `<`."""
+    return text.replace("&", "&amp;").replace("<", "&lt;")
+
+
+def joined(history, report, names="null", lines="null", said=("", "", "")):
+    """A page of four JSON texts, as they are, and of what it says without its script: words, a list and a picture."""
+    parts, (words, listed, picture) = pieces(), said
     data = [in_script(text) for text in (history, report, names, lines)]
     opening = parts["OPENING"] + parts["STYLE"] + parts["BODY"] + data[0]
     middle = parts["BEFORE_REPORT"] + data[1] + parts["BEFORE_NAMES"] + data[2] + parts["BEFORE_LINES"] + data[3]
-    return opening + middle + parts["BEFORE_SCRIPT"] + script_of(parts) + parts["ENDING"]
+    static = parts["BEFORE_WORDS"] + in_markup(words) + parts["BEFORE_LIST"] + in_markup(listed) + parts["BEFORE_PICTURE"] + picture
+    return opening + middle + static + parts["BEFORE_SCRIPT"] + script_of(parts) + parts["ENDING"]
 
 
 def write_hashes():

@@ -5,17 +5,20 @@
 
 - The pieces: they are ASCII, nothing in them ends an element, the hashes in the policy are those of the style and the script, and the
   script has no call that would make markup of a text.
+- Without a script: Python's parser of HTML finds the words of `explain`, the list and the picture, and nothing else that is seen
+  (page_static.py).
 - Node: of the histories of the tables of tests/cases and of COUNT random ones, each number is kept exactly, the faults are those of
   `explain --all`, the words are those of `explain`, each step is an edge, and in the picture no link crosses a box (page_model.py). Views
   zoom and move by a plain rule (page_views.py).
 - Chromium: the pages of the examples open without a message, at 1,280 and 390 pixels; clicks, keys, the search, filters and print work;
   names that are markup run nothing and make no element (page_clicks.py). The picture of a fault and the run are zoomed and moved by wheel,
-  drag, fingers, keys and buttons (page_views.py).
+  drag, fingers, keys and buttons (page_views.py). Where scripts are off, or a policy forbids them, what is said without them is seen.
 
 The pages are those that the program writes, and have to be the pieces joined by page_parts.py. What the machine lacks is named as skipped.
 """
 
 import argparse
+import pathlib
 import random
 import re
 import shutil
@@ -26,6 +29,7 @@ import page_clicks
 import page_inputs
 import page_model
 import page_parts
+import page_static
 import page_views
 from command_words import with_program
 from counting import counted, end
@@ -75,7 +79,9 @@ def main():
     add(piece_faults())
     examples, tables = page_inputs.of_examples(given.program), page_inputs.of_tables(given.program)
     randoms = page_inputs.at_random(given.program, rng, given.count)
-    add(same_pages([*examples, *randoms]))
+    hostile = page_inputs.page_of(given.program, "hostile names", page_clicks.hostile_log(), page_inputs.LOG)
+    add(same_pages([*examples, *randoms, hostile]))
+    add(page_static.faults([*examples, *tables, *randoms, hostile]))
     if shutil.which("node"):
         add(page_model.faults([*examples, *tables, *randoms]))
         add(page_views.model_faults(rng))
@@ -86,6 +92,8 @@ def main():
         with tempfile.TemporaryDirectory(prefix="pages-") as room, browser.opened() as window:
             others = [*tables, *randoms] if given.long else tables
             add(page_clicks.faults(window, room, examples, others, given.program, given.long))
+            for page in (*examples[:4], hostile):
+                add(page_static.seen_without_scripts(window, pathlib.Path(room), page))
     else:
         skipped += 1
         print(f"the pages in Chromium: skipped: {CHROMIUM}")

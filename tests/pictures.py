@@ -21,7 +21,7 @@ EDGES = {
 }
 CYCLES = ("CyclicCO", "CyclicCF", "CyclicHB")
 WRONG_READ, WRONG_CYCLE = "wrong: this read", "wrong: each comes before the next"
-READ_WORDS = re.compile(r"should have seen .+ or newer|nobody wrote this value|wrong", re.DOTALL)
+READ_WORDS = re.compile(r"missed .+, which (wrote .+ to it|deleted it)|nobody wrote this value", re.DOTALL)
 TITLE = re.compile(r"\w+ no (\w+)")
 GAP = re.compile(r"⋮ (\d+) left out")
 STEP = re.compile(r"([MVHC])([\d ]+)")

@@ -14,8 +14,14 @@ pub five : (p q r s t u a b c d e : List ℕ) → q ≡ p ++ a → r ≡ q ++ b 
 five p q r s t u a b c d e first second third fourth fifth =
     two p q u a (b ++ (c ++ (d ++ e))) first (four q r s t u b c d e second third fourth fifth)
 
-pub nine : (p q r s t u v w x y a b c d e f g h i : List ℕ) → q ≡ p ++ a → r ≡ q ++ b → s ≡ r ++ c → t ≡ s ++ d → u ≡ t ++ e → v ≡ u ++ f
-    → w ≡ v ++ g → x ≡ w ++ h → y ≡ x ++ i → y ≡ p ++ (a ++ (b ++ (c ++ (d ++ (e ++ (f ++ (g ++ (h ++ i))))))))
-nine p q r s t u v w x y a b c d e f g h i first second third fourth fifth sixth seventh eighth ninth =
-    five p q r s t y a b c d (e ++ (f ++ (g ++ (h ++ i)))) first second third fourth
-    (five t u v w x y e f g h i fifth sixth seventh eighth ninth)
+pub six : (p q r s t u v a b c d e f : List ℕ) → q ≡ p ++ a → r ≡ q ++ b → s ≡ r ++ c → t ≡ s ++ d → u ≡ t ++ e → v ≡ u ++ f
+    → v ≡ p ++ (a ++ (b ++ (c ++ (d ++ (e ++ f)))))
+six p q r s t u v a b c d e f first second third fourth fifth sixth =
+    two p q v a (b ++ (c ++ (d ++ (e ++ f)))) first (five q r s t u v b c d e f second third fourth fifth sixth)
+
+pub ten : (p q r s t u v w x y z a b c d e f g h i j : List ℕ) → q ≡ p ++ a → r ≡ q ++ b → s ≡ r ++ c → t ≡ s ++ d → u ≡ t ++ e → v ≡ u ++ f
+    → w ≡ v ++ g → x ≡ w ++ h → y ≡ x ++ i → z ≡ y ++ j
+    → z ≡ p ++ (a ++ (b ++ (c ++ (d ++ (e ++ (f ++ (g ++ (h ++ (i ++ j)))))))))
+ten p q r s t u v w x y z a b c d e f g h i j first second third fourth fifth sixth seventh eighth ninth tenth =
+    five p q r s t z a b c d (e ++ (f ++ (g ++ (h ++ (i ++ j))))) first second third fourth
+    (six t u v w x y z e f g h i j fifth sixth seventh eighth ninth tenth)

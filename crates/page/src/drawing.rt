@@ -119,6 +119,7 @@ function linesOf(fault, {op}, isWide) {   // the lines of a box: how each looks,
   const lines = [['op', verb + (key && ' ' + apart(key))]], got = value && (isRead ? 'got ' : run.isMemory ? '= ' : '') + apart(value);
   if (value || isOpen) lines.push(['value', [got, isOpen && 'no answer'].filter(Boolean).join(', ')]);
   if (op === fault.read) lines.push(['wrong', '\u2717 ' + wrongText(fault)]);
+  if (fault.cycle.has(op)) lines.push(['wrong', '\u2717 in the cycle']);
   if (op === fault.missed) lines.push(['right', verb === 'deletes' ? 'the missed delete' : 'the missed write']);
   return isWide ? lines : [['small', placeText(op) + ' ' + apart(names.session(run.session[op]))], ...lines];
 }
@@ -170,7 +171,7 @@ function showPicture() {
   $('picture').className = !y.isFixed ? 'free' : x.isFixed ? '' : 'sideways';
 }
 function boxOf(fault, {op, x, y, tall}, box) {
-  const look = op === fault.read ? ' wrong' : op === fault.missed ? ' missed' : operationPieces(run, names, op).isOpen ? ' open' : '';
+  const look = isWrong(fault, op) ? ' wrong' : op === fault.missed ? ' missed' : operationPieces(run, names, op).isOpen ? ' open' : '';
   return drawn('rect', {x: x - box / 2, y, width: box, height: tall, rx: 6, class: 'box' + look});
 }
 function writeBox({isWide, box}, {op, x, y, lines}, side, across, write) {
@@ -447,7 +448,7 @@ function drawRings(c, colour, each) {   // around the operations of the fault, w
     const x = pixelOf(indexOf(run, op)), across = Math.max(10, each - 2);
     c.strokeRect(x - (each < 10 ? 5 : 0), rowOf(run.session[op]) * ROW, across, tall);
   };
-  for (const op of current ? opsOf(current, stepsFor(current)) : []) ring(op, op === current.read ? 'wrong' : 'text', 2);
+  for (const op of current ? opsOf(current, stepsFor(current)) : []) ring(op, isWrong(current, op) ? 'wrong' : 'text', 2);
   for (const {stopped} of verdicts) if (stopped >= 0) ring(stopped, 'open', 2);
   if (marked >= 0 && marked !== (current || {}).read) ring(marked, 'accent', 3);
   if (cursor >= 0 && document.activeElement === map) ring(cursor, 'accent', 3);
@@ -649,6 +650,8 @@ function caution() {
     run.lines ? 'A line is that of the log on which the call begins.' : '2.1 is operation 1 of session 2, both counted from 0.'];
 }
 function start() {
+  $('said').remove();
+  $('live').hidden = false;
   put('columns', COLUMNS.filter(Boolean).map(title => make('th', {scope: 'col'}, title)));
   $('search').placeholder = `Search ${[noun, run.isKeyed && keyNoun, 'value'].filter(Boolean).join(', ')} or place`;
   showVerdicts();

@@ -1,32 +1,60 @@
-//! JSON texts in a page.
+//! Texts in a page.
 
 ghost use Rattle.std.specs.Prelude.{◌≡◌, ◌++◌, OnOk};
 ghost use Rattle.page.specs.Pages.{escaped, shown_byte};
 
 use std::alloc::AllocError;
 
-/// Appends a JSON text to a page, and writes each `<` as its escape in a JSON string.
+/// What a text stands in.
+#[derive(Clone, Copy, PartialEq, Eq)]
+pub enum Within {
+    /// A script element that holds JSON.
+    Json,
+    /// An element that shows its text.
+    Markup,
+}
+
+/// Appends a text to a page, escaped for what it stands in.
 ///
-/// A JSON text has `<` in its strings alone, so its meaning stays the same. What is appended has no `<`, so it begins no element and ends
-/// none: `escaped_text_begins_no_markup` in [`laws`](crate::laws). Fails only when memory is refused. O(n) for n bytes.
+/// A JSON text has `<` in its strings alone, and gets the escape of JSON strings there, so its meaning stays the same. In markup `<` and `&`
+/// get their entities, so that the element shows the text. What is appended has no `<`, so it begins no element and ends none:
+/// `escaped_text_begins_no_markup` in [`laws`](crate::laws). Fails only when memory is refused. O(n) for n bytes.
 #[tactic(auto, using(crate::proofs::Escapes::escaped_more))]
-pub(crate) fn push_escaped(page: &mut Vec<u8>, text: &[u8]) -> Result<(), AllocError>
-    ensures { OnOk result (page.new.items ≡ page.old.items ++ escaped text.now) }
+pub(crate) fn push_escaped(
+    page: &mut Vec<u8>,
+    text: &[u8],
+    within: Within,
+) -> Result<(), AllocError>
+    ensures { OnOk result (page.new.items ≡ page.old.items ++ escaped within text.now) }
 {
     for byte in text {
-        push_shown(page, *byte)?;
+        push_shown(page, *byte, within)?;
     }
     Ok(())
 }
 
-// Appends a byte of a JSON text to a page, or the escape of `<`.
-fn push_shown(page: &mut Vec<u8>, byte: u8) -> Result<(), AllocError>
-    ensures { OnOk result (page.new.items ≡ page.old.items ++ shown_byte byte) }
+// Appends a byte of a text to a page, or its escape.
+fn push_shown(page: &mut Vec<u8>, byte: u8, within: Within) -> Result<(), AllocError>
+    ensures { OnOk result (page.new.items ≡ page.old.items ++ shown_byte within byte) }
 {
-    if byte == b'<' {
-        page.extend_from_slice(br"\u003c")?;
-    } else {
-        page.push(byte)?;
+    match within {
+        Within::Json => {
+            if byte == b'<' {
+                page.extend_from_slice(br"\u003c")?;
+                return Ok(());
+            }
+        }
+        Within::Markup => {
+            if byte == b'<' {
+                page.extend_from_slice(b"&lt;")?;
+                return Ok(());
+            }
+            if byte == b'&' {
+                page.extend_from_slice(b"&amp;")?;
+                return Ok(());
+            }
+        }
     }
+    page.push(byte)?;
     Ok(())
 }

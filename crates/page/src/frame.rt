@@ -1,11 +1,13 @@
 //! The static markup of the page, in pieces.
 //!
 //! A page is, in this order: `OPENING`, `STYLE`, `BODY`, the history, `BEFORE_REPORT`, the report, `BEFORE_NAMES`, the names,
-//! `BEFORE_LINES`, the lines, `BEFORE_SCRIPT`, `SCRIPT`, `ZOOMING`, `DRAWING`, `ENDING`. The four texts between them are JSON in which each
-//! `<` is written as `\u003c`.
+//! `BEFORE_LINES`, the lines, `BEFORE_WORDS`, the words, `BEFORE_LIST`, the list, `BEFORE_PICTURE`, the picture, `BEFORE_SCRIPT`, `SCRIPT`,
+//! `ZOOMING`, `DRAWING`, `ENDING`. The first four texts between them are JSON in which each `<` is written as `\u003c`. The words and the
+//! list are text in which each `<` and each `&` is written as its entity. The picture is an SVG element as it is.
 //!
-//! The markup has no text of an input: the script makes all elements that show one. The policy in `OPENING` lets in the one style and
-//! the one script, by the hashes of `hashes.rt`, and nothing else.
+//! The elements of `BODY` are hidden, and have no text of an input: the script shows them, and makes all further elements. The element
+//! `said` has the words, the list and the picture. The script removes it as it begins to draw, so it is seen wherever no script runs. The
+//! policy in `OPENING` lets in the one style and the one script, by the hashes of `hashes.rt`, and nothing else.
 
 /// The beginning of a page, up to the style.
 pub const OPENING: &str = r#"<!DOCTYPE html>
@@ -13,18 +15,19 @@ pub const OPENING: &str = r#"<!DOCTYPE html>
 <head>
 <meta charset="utf-8">
 <meta http-equiv="Content-Security-Policy" content="default-src 'none'; base-uri 'none'; form-action 'none';
-script-src 'sha256-uCYvzCYVYBI1qYj6BgqD7hyLAm5pkcltsjr8dwXcIFE=';
-style-src 'sha256-x7LJrQxXm27nupvLkflIfF2kSdeFTCYr2DUefNxHIis='">
+script-src 'sha256-JZcsPz2LltV+L0rcL3Bdvi4ifigKm2WnD4364gM/rrM=';
+style-src 'sha256-W+adrpk4AgFw85phCFghPqkK0vN5PCysVzyjCRaoJng='">
 <meta name="viewport" content="width=device-width, initial-scale=1">
 <meta name="referrer" content="no-referrer">
 <meta name="generator" content="causal_judge">
 <title>causal_judge</title>
 <style>"#;
 
-/// What follows the style: the empty elements that the script fills, up to the history.
+/// What follows the style: the empty elements that the script fills and shows, up to the history.
 pub const BODY: &str = r#"</style>
 </head>
 <body>
+<div id="live" hidden>
 <a class="skip" href='#run'>Skip to the whole run</a>
 <a class="skip" href='#operations'>Skip to the operations</a>
 <header>
@@ -32,7 +35,6 @@ pub const BODY: &str = r#"</style>
 <div id="verdict"><h1 id="headline">Reading the history</h1><p id="lead"></p><ul id="facts"></ul></div>
 <ul id="cards" aria-label="The three criteria"></ul>
 </header>
-<noscript><p class="panel">This page draws its pictures with its own script, and scripts are switched off here.</p></noscript>
 <main>
 <div id="evidence">
 <section class="panel" id="fault" aria-labelledby="fault-title" hidden>
@@ -81,6 +83,7 @@ its operations from left to right. Arrow keys go to the next operation, plus and
 <li>in the run: <kbd>Enter</kbd> lists what is around an operation</li>
 <li>by mouse: a drag moves, <kbd>Ctrl</kbd> with the wheel zooms, and a double click zooms in</li></ul></details>
 </footer>
+</div>
 <script type="application/json" id="history">"#;
 
 /// Between the history and the report.
@@ -95,8 +98,32 @@ pub const BEFORE_NAMES: &str = r#"</script>
 pub const BEFORE_LINES: &str = r#"</script>
 <script type="application/json" id="lines">"#;
 
-/// Between the lines and the script.
-pub const BEFORE_SCRIPT: &str = r#"</script>
+/// Between the lines and the words.
+pub const BEFORE_WORDS: &str = r#"</script>
+<div id="said">
+<p class="maker"><code>causal_judge explain</code></p>
+<section class="panel"><h1>What was found</h1>
+<pre>"#;
+
+/// The most reads that the list names.
+pub const MOST_SAID: u32 = 300;
+
+/// Between the words and the list. It says how many reads the list names at most.
+pub const BEFORE_LIST: &str = r#"</pre></section>
+<section class="panel"><h2>Reads that show a fault</h2>
+<p class="soft">At most 300 of them are listed here. The counts before the list are those of all.</p>
+<pre>"#;
+
+/// Between the list and the picture.
+pub const BEFORE_PICTURE: &str = r#"</pre></section>
+<section class="panel"><h2>The picture</h2>
+<div class="drawn">"#;
+
+/// Between the picture and the script.
+pub const BEFORE_SCRIPT: &str = r#"</div></section>
+<p class="soft">No script has run here. Where the script of this page runs, the page shows each fault with its picture, the whole run, and a
+search.</p>
+</div>
 <script>"#;
 
 /// The end of a page.

@@ -1,7 +1,7 @@
 //! The page of a history: an HTML document in one file that shows the history, and why it meets the criteria or does not.
 //!
 //! It gives [`page_of`], which puts the JSON texts of a history, of a report on it and of its names into a frame of fixed markup, style
-//! and script.
+//! and script, and [`said_of`], the part of a page that says the same where no script runs.
 #![tactic(auto)]
 
 mod drawing;
@@ -14,4 +14,5 @@ mod script;
 mod style;
 mod zooming;
 
-pub use pages::page_of;
+pub use frame::MOST_SAID;
+pub use pages::{page_of, said_of};

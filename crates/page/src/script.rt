@@ -220,17 +220,19 @@ function operationPieces(run, names, op) {
     key: run.isKeyed ? names.key(run.key[from]) : '', value: isDelete || value < 0 ? '' : names.value(value)};
 }
 
-// ---- The causal order: session order and reads. A way from one operation to another takes as few reads as possible. The search begins
-// at its end: for each session, `front` is one more than the last operation that is known to reach the end.
+// ---- The causal order: session order and reads. A way from one operation to another takes as few reads as possible, and of such ways one
+// that begins by a read, if there is one. The search begins at its end: for each session, `front` is one more than the last operation that
+// is known to reach the end.
 function wayBetween(run, from, to) {
-  const front = Int32Array.from(run.base), queue = [{top: to, read: NONE, next: null}];
+  const front = Int32Array.from(run.base), queue = [{top: to, read: NONE, next: null, reads: 0}];
+  const atOnce = reads => queue.find(stretch => stretch.top === from && stretch.reads === reads);
   for (let at = 0; at < queue.length; at++) {
     const stretch = queue[at], s = run.session[stretch.top];
     if (stretch.top < front[s]) continue;
-    if (run.session[from] === s && from <= stretch.top) return followed(from, stretch);
+    if (run.session[from] === s && from <= stretch.top) return followed(from, atOnce(stretch.reads) || stretch);
     for (let op = stretch.top; op >= front[s]; op--) {
       const source = run.source[op];
-      if (source >= 0 && source >= front[run.session[source]]) queue.push({top: source, read: op, next: stretch});
+      if (source >= 0 && source >= front[run.session[source]]) queue.push({top: source, read: op, next: stretch, reads: stretch.reads + 1});
     }
     front[s] = stretch.top + 1;
   }
@@ -271,6 +273,7 @@ const titleOf = kind => TITLES[kind] || KINDS[kind][0];
 function faultOf(run, [kind, ...shown]) {
   const op = pair => opAt(run, pair), ways = shown.map(part => Array.isArray(part[0]) ? part : null);
   const fault = {kind, read: NONE, missed: NONE, source: NONE, upTo: NONE, session: NONE, shown, listed: false};
+  fault.cycle = new Set(cycleOf(run, fault));
   const first = ways[0] && ways[0].every(pair => typeof pair[0] === 'number') ? ways[0].map(op) : [];
   if (kind === 'ThinAirRead') fault.read = op(shown[0]);
   else if (kind === 'WriteCOInitRead') Object.assign(fault, {missed: first[0], read: first[first.length - 1], ways: [first]});
@@ -285,10 +288,35 @@ function faultOf(run, [kind, ...shown]) {
   fault.session = fault.read >= 0 ? run.session[fault.read] : fault.upTo >= 0 ? run.session[fault.upTo] : NONE;
   return fault;
 }
+// The operations that a cycle puts before themselves, as `explain --svg` marks them.
+function cycleOf(run, {kind, shown}) {
+  const op = pair => opAt(run, pair);
+  if (kind === 'CyclicCO') return shown[0].map(op);
+  if (kind === 'CyclicCF') return shown[0].flatMap(([word, first, second]) => [op(word === 'co' ? first : first[0]), op(second)]);
+  return kind === 'CyclicHB' ? joinedEnds(run, shown[1]) : [];
+}
+function derivedPairs(run, lines) {   // what each line of a derivation puts before what
+  const pairs = [], op = pair => opAt(run, pair);
+  for (const [word, first, second] of lines) {
+    pairs.push(word === 'co' ? [op(first[0]), op(first[first.length - 1])] :
+      word === 'tr' ? [pairs[first][0], pairs[second][1]] : [pairs[first][0], run.source[op(second)]]);
+  }
+  return pairs;
+}
+function joinedEnds(run, lines) {   // of the last line, or of the lines that it joins
+  const pairs = derivedPairs(run, lines), joined = new Set([lines.length - 1]), ends = [];
+  for (let at = lines.length - 1; at >= 0; at--) {
+    const [word, first, second] = lines[at];
+    if (!joined.has(at)) continue;
+    if (word === 'tr') joined.add(first).add(second); else ends.push(...pairs[at]);
+  }
+  return ends;
+}
+const isWrong = (fault, op) => op === fault.read || fault.cycle.has(op);
 function listedFault(run, [kind, ...places]) {
   const [read, ...others] = places.map(pair => opAt(run, pair)), missed = others.length ? others[others.length - 1] : NONE;
   const source = others.length > 1 ? others[0] : NONE;
-  return {kind, read, missed, source, upTo: NONE, session: run.session[read], shown: null, listed: true};
+  return {kind, read, missed, source, upTo: NONE, session: run.session[read], shown: null, listed: true, cycle: new Set()};
 }
 
 // The faults that the page shows: those of the list, and in front those of the verdicts that it lacks. A verdict's own pattern is drawn
@@ -355,10 +383,10 @@ function stepsOf(run, fault) {
   else ends = addRead(run, steps, fault);
   return {...steps.kept(), ends};
 }
+const waysOf = (run, {ways, source, missed, read}) => ways ||
+  [source >= 0 && wayBetween(run, source, missed), missed >= 0 && wayBetween(run, missed, read)].filter(Boolean);
 function addRead(run, steps, fault) {   // a read that missed a write, or whose value nobody wrote
-  const known = fault.ways || [fault.source >= 0 && wayBetween(run, fault.source, fault.missed), fault.missed >= 0 &&
-    wayBetween(run, fault.missed, fault.read)].filter(Boolean);
-  for (const way of known) steps.follow(way);
+  for (const way of waysOf(run, fault)) steps.follow(way);
   if (fault.source >= 0) steps.add({how: 'reads', from: fault.source, to: fault.read});
   return [fault.missed, fault.read];
 }
@@ -374,15 +402,12 @@ function addLinks(run, steps, links, way) {
   return [opAt(run, word === 'co' ? first : first[0]), NONE];
 }
 function addDerivation(run, steps, fault, way) {
-  const lines = fault.shown[1], pairs = [];
+  const lines = fault.shown[1], pairs = derivedPairs(run, lines);
   lines.forEach(([word, first, second], at) => {
-    const isKept = at < AT_AN_END || at >= lines.length - AT_AN_END, path = word === 'co' ? way(first) : null;
-    const pair = path ? [path[0], path[path.length - 1]] : word === 'tr' ? [pairs[first][0], pairs[second][1]] :
-      [pairs[first][0], run.source[opAt(run, second)]];
-    pairs.push(pair);
+    const isKept = at < AT_AN_END || at >= lines.length - AT_AN_END, pair = pairs[at];
     if (!isKept) { steps.skipped++; return; }
-    if (path) {
-      steps.lead(path);
+    if (word === 'co') {
+      steps.lead(way(first));
       if (run.session[opAt(run, second[0])] !== run.session[fault.upTo]) steps.lead(way(second));
     } else if (word === 'tr') steps.add({how: 'joins', from: pair[0], to: pair[1], why: pairs[first][1]});
     else {
@@ -414,6 +439,8 @@ function wordLines(run, names, fault, steps) {
   if (steps.leftOut) lines.push([`(${steps.leftOut} more steps are left out here)`]);
   for (const step of steps.last) lines.push([stepWords(run, step)]);
   lines.push(wrongWords(run, names, fault, steps.ends));
+  const breaks = guaranteeOf(run, fault);
+  if (breaks) lines.push([`This breaks ${breaks}.`]);
   return lines;
 }
 function wrongWords(run, names, fault, [begin, end]) {
@@ -441,8 +468,16 @@ const readBefore = (run, {read, missed}) => {   // an earlier read of the sessio
   for (let op = read - 1; missed >= 0 && op >= run.base[run.session[read]]; op--) if (run.source[op] === missed) return op;
   return NONE;
 };
-const guaranteeOf = (run, fault) => !/^WriteCO/.test(fault.kind) ? null : run.session[fault.missed] === run.session[fault.read] ?
-  'read your writes' : readBefore(run, fault) >= 0 ? 'monotonic reads' : null;
+// What a stale read breaks, by the links of the way from the missed write: stretches of one client, and reads of what others wrote.
+const GUARANTEES = ['read your writes', 'monotonic reads', 'monotonic writes', 'writes follow reads', 'causal order'];
+const isOfLost = (run, op) => run.lines && run.session[op] >= run.clients;
+const goesOn = (run, from, to) => run.session[from] === run.session[to] ? from < to : isOfLost(run, to) && !indexOf(run, to);
+function guaranteeOf(run, fault) {
+  const way = /^WriteCO/.test(fault.kind) ? waysOf(run, fault).slice(-1)[0] : null;
+  if (!way) return null;
+  const stays = way.slice(1).map((to, at) => goesOn(run, way[at], to)), links = stays.filter((stay, at) => !(stay && stays[at - 1]));
+  return GUARANTEES[Math.min(links.length, GUARANTEES.length) - 1];
+}
 const at = (run, op) => ' (' + placeOf(run, op) + ')';
 const startsBig = parts => {
   const text = plainText(parts);

@@ -89,16 +89,16 @@ button:hover { border-color: var(--muted); }
 #picture.sideways:active, #picture.free:active { cursor: grabbing; }
 #picture svg { display: block; }
 #picture.free svg { outline: 1px solid var(--line); outline-offset: -1px; }
-svg text {
+#picture text {
   font: 13px system-ui, -apple-system, "Segoe UI", Roboto, "DejaVu Sans", Arial, sans-serif; fill: var(--text);
   direction: ltr; unicode-bidi: isolate;
 }
-svg .lane { font-weight: 700; font-size: 14px; }
-svg .small { font-size: 11.5px; fill: var(--muted); }
-svg .op { font-weight: 600; }
-svg .value { font: 12px ui-monospace, "SF Mono", Menlo, Consolas, "DejaVu Sans Mono", monospace; }
-svg text.wrong { fill: var(--wrong); font-weight: 700; stroke: none; }
-svg text.right { fill: var(--right); font-weight: 600; }
+#picture .lane { font-weight: 700; font-size: 14px; }
+#picture .small { font-size: 11.5px; fill: var(--muted); }
+#picture .op { font-weight: 600; }
+#picture .value { font: 12px ui-monospace, "SF Mono", Menlo, Consolas, "DejaVu Sans Mono", monospace; }
+#picture text.wrong { fill: var(--wrong); font-weight: 700; stroke: none; }
+#picture text.right { fill: var(--right); font-weight: 600; }
 .box { fill: var(--card); stroke: var(--muted); stroke-width: 1.5; }
 .box.wrong { fill: var(--wrong-card); stroke: var(--wrong); stroke-width: 3; }
 .box.missed { fill: var(--right-card); stroke: var(--right); stroke-width: 2.5; }
@@ -153,6 +153,11 @@ td:first-child { white-space: nowrap; font-variant-numeric: tabular-nums; }
 tr.bad { background: var(--wrong-card); color: inherit; }
 tr.here td { background: color-mix(in srgb, var(--accent) 16%, transparent); }
 #more { margin-top: 6px; }
+#said h1 { font-size: 18px; line-height: 1.3; }
+#said pre { margin: 6px 0 0; white-space: pre-wrap; font-size: 13px; }
+#said .drawn { margin-top: 6px; }
+#said svg { display: block; max-width: 100%; height: auto; }
+#said > .soft { margin-top: 14px; }
 footer { margin-top: 14px; }
 .keys { display: grid; grid-template-columns: repeat(auto-fit, minmax(280px, 1fr)); gap: 4px 24px; margin-top: 6px; }
 kbd { border: 1px solid var(--line); border-bottom-width: 2px; border-radius: 4px; padding: 0 5px; background: var(--card); }

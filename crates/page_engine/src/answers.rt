@@ -18,7 +18,7 @@ pub(crate) struct LogAnswer {
     pub torn: bool,
 }
 
-/// The answer to a log in memory that is followed once.
+/// The answer to a log in memory that is followed once. Appends what is told of a line that is refused.
 ///
 /// Fails with the first line that is refused, and for want of memory. Its cost is that of [`follow_log`].
 #[tactic(auto, using(crate::proofs::Joined::followed_is_answer))]
@@ -26,6 +26,7 @@ pub(crate) fn answer_of<P: Threads + Wait + Sync + AllocGlobal>(
     rt: &P,
     log: &[u8],
     order: &LogOrder,
+    told: &mut String,
 ) -> Result<LogAnswer, LogError>
     requires { every_in order.now ≡ None }
     ensures answer { IfOk result (λ answer. IsAnswerOf order.now log.now answer.torn answer.text.items) }
@@ -33,7 +34,7 @@ pub(crate) fn answer_of<P: Threads + Wait + Sync + AllocGlobal>(
 {
     let mut rest = log;
     let mut text = Vec::new(rt.alloc());
-    match follow_log(rt, &mut rest, &mut text, order) {
+    match follow_log(rt, &mut rest, &mut text, order, told) {
         Ok(followed) => Ok(LogAnswer {
             text,
             torn: followed.torn,

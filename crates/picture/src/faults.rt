@@ -53,32 +53,27 @@ fn blame_read<N: Names>(
     pair: Option<Pair>,
 ) -> Result<(), AllocError> {
     match pair {
-        Some((write, read)) => marks.blame(read, unseen_words(alloc, names, memory, write)?),
+        Some((write, read)) => marks.blame(read, missed_words(alloc, names, memory, write)?),
         None => Ok(()),
     }
 }
 
-// The words about a read that does not show a write which comes before it.
-fn unseen_words<N: Names>(
+// The words about a read that does not show a write which comes before it. They say of no value that it was due: a write that is
+// concurrent to the missed one might have been read as well.
+fn missed_words<N: Names>(
     alloc: Global,
     names: &N,
     memory: &IndexedMemory,
     op: OpId,
 ) -> Result<String, AllocError> {
+    let name = names.operation(alloc, op)?;
     match write_by(memory.writes(), op) {
         Some(write) => {
-            let value = names.value(alloc, write.key, write.value)?;
-            words_about_unseen(alloc, value)
+            let written = names.write_words(alloc, write.key, write.value)?;
+            format!(in alloc; "missed {name}, which {written}")
         }
-        None => String::from_str(alloc, "wrong"),
+        None => format!(in alloc; "missed {name}"),
     }
-}
-
-// The words about a read that does not show a value.
-fn words_about_unseen(alloc: Global, value: String) -> Result<String, AllocError> {
-    let words = format!(in alloc; "should have seen {value} or newer");
-    drop(value);
-    words
 }
 
 // What an operation writes, where it is one of these writes.

@@ -4,4 +4,4 @@ use Rattle.page.proofs.escaping.push_escaped.Given as goal
 
 -- the text so far
 abbrev pub invariant-loop-byte : goal.invariant-loop-byte
-invariant-loop-byte l = l.page.items ≡ l.initial.page.items ++ escaped (take l.byte-index l.text)
+invariant-loop-byte l = l.page.items ≡ l.initial.page.items ++ escaped l.within (take l.byte-index l.text)
