@@ -56,7 +56,7 @@ COMMIT=$(git -C "$ROOT" rev-parse HEAD)
 SOURCE_DATE_EPOCH=$(git -C "$ROOT" log -1 --format=%ct)
 export SOURCE_DATE_EPOCH
 CHANGED=$(git -C "$ROOT" status --porcelain)
-SAID=$("$PROGRAM" --version)
+SAID=$("$PROGRAM" --version | sed -n 1p)
 KIT=$(sed -n 's/^kit //p' "$MARK" 2> /dev/null || true)
 if [ -n "$UNPROVED" ] && command -v rt > /dev/null; then
     KIT=$(cat "$(dirname "$(rt doc | awk 'END { print $NF }')")/KIT-ID")
@@ -154,10 +154,12 @@ END
 chmod 755 "$ROOM/bin/causal_judge"
 python3 "$HERE/completions.py" "$PROGRAM" "$ROOM/completions"
 COMMANDS=$("$PROGRAM" --help | sed -n '/^Commands:/,/^$/ s/^  \([a-z]*\) .*/\1/p' | grep -v '^help$')
+# The topics that help has beside the commands.
+topics() { for topic in forms refusals; do echo; "$PROGRAM" help "$topic"; done; }
 # The part of a help after its options, as a section of a man page: after [COMMAND]. Quotes and dashes stay those that a shell takes.
 after() {
     printf '[INPUT AND ANSWERS]\n.nf\n'
-    "$PROGRAM" "$@" --help | awk 'over { print } /^Options:/ { last = 1 } last && /^$/ { over = 1 }' |
+    { "$PROGRAM" "$@" --help | awk 'over { print } /^Options:/ { last = 1 } last && /^$/ { over = 1 }'; [ $# -gt 0 ] || topics; } |
         sed -e 's/\\/\\e/g' -e 's/^\./\\\&&/' -e 's/-/\\-/g' -e "s/'/\\\\(aq/g" -e 's/`/\\(ga/g' -e 's/\^/\\(ha/g' -e 's/~/\\(ti/g'
     printf '.fi\n'
 }
@@ -178,19 +180,24 @@ done
 # Puts a file in its place: MODE FROM TO.
 put() { install -D -m "$1" "$2" "$3"; }
 
-# The pages and the examples, once: as the commit has them, or, where files differ from it, as they are now.
-PAGES="README.md LICENSE CHANGELOG.md CITATION.cff CONTRIBUTING.md VERSION docs embed examples python release/README.md tests/README.md bench/README.md"
-mkdir "$ROOM/pages"
-# shellcheck disable=SC2086
+# The repository, as the commit has it, or, where files differ from it, as it is now.
+mkdir "$ROOM/source"
 if [ -z "$CHANGED" ]; then
-    git -C "$ROOT" archive "$COMMIT" $PAGES | tar -xf - -C "$ROOM/pages"
+    git -C "$ROOT" archive "$COMMIT" | tar -xf - -C "$ROOM/source"
 else
-    (cd "$ROOT" && git ls-files $PAGES | tar -cf - -T -) | tar -xf - -C "$ROOM/pages"
+    (cd "$ROOT" && comm -23 <(git ls-files | sort) <(git ls-files --deleted | sort) | tar -cf - -T -) | tar -xf - -C "$ROOM/source"
 fi
-cp "$ROOM/BUILD" "$ROOM/pages/BUILD"
+# Puts the pages and the examples of a package in a folder: TO [--library].
+WITH_LIBRARY=()
+[ -n "$NO_LIBRARY" ] || WITH_LIBRARY=(--library)
 put_pages() {
-    local file
-    (cd "$ROOM/pages" && find . -type f -printf '%P\n') | while read -r file; do put 644 "$ROOM/pages/$file" "$1/$file"; done
+    local to=$1 file
+    shift
+    mkdir "$ROOM/pages"
+    python3 "$HERE/pages.py" "$@" "$ROOM/source" "$ROOM/pages"
+    cp "$ROOM/BUILD" "$ROOM/pages/BUILD"
+    (cd "$ROOM/pages" && find . -type f -printf '%P\n') | while read -r file; do put 644 "$ROOM/pages/$file" "$to/$file"; done
+    rm -r "$ROOM/pages"
 }
 
 # All files of a package, below a folder, with the folders of libraries and completions of the kind.
@@ -198,7 +205,7 @@ put_files() {
     local below=$1 lib=$2 zsh=$3 file
     put 755 "$PROGRAM" "$below/bin/causal_judge"
     if [ -z "$NO_LIBRARY" ]; then
-        put 644 "$ROOM/pages/embed/causal_judge.h" "$below/include/causal_judge.h"
+        put 644 "$ROOM/source/embed/causal_judge.h" "$below/include/causal_judge.h"
         put 644 "$ROOM/libcausal_judge.a" "$below/$lib/libcausal_judge.a"
         put 644 "$ROOM/libcausal_judge.so" "$below/$lib/causal_judge/libcausal_judge.so"
         sed -e "s|@VERSION@|$VERSION|" -e "s|@PREFIX@|$4|" -e "s|@LIB@|$lib|" "$HERE/causal_judge.pc.in" > "$ROOM/causal_judge.pc"
@@ -208,7 +215,7 @@ put_files() {
     put 644 "$ROOM/completions/causal_judge.bash" "$below/share/bash-completion/completions/causal_judge"
     put 644 "$ROOM/completions/causal_judge.zsh" "$below/share/zsh/$zsh/_causal_judge"
     put 644 "$ROOM/completions/causal_judge.fish" "$below/share/fish/vendor_completions.d/causal_judge.fish"
-    put_pages "$below/share/doc/causal-judge"
+    put_pages "$below/share/doc/causal-judge" "${WITH_LIBRARY[@]}"
 }
 
 dated() { find "$1" -exec touch --no-dereference --date "@$SOURCE_DATE_EPOCH" {} +; }
@@ -234,7 +241,8 @@ debian() {
     local below=$ROOM/debian doc=usr/share/doc/causal-judge file
     put_files "$below/usr" lib/x86_64-linux-gnu vendor-completions /usr
     for file in "$below"/usr/share/man/man1/*.1; do gzip -9n "$file"; done
-    { echo "causal_judge"; echo; cat "$ROOM/pages/LICENSE"; } > "$below/$doc/copyright"
+    python3 "$HERE/dist_packages.py" "$ROOM/source/python/causal_judge" "$below/usr/lib/python3/dist-packages" "$WHEEL"
+    { echo "causal_judge"; echo; cat "$ROOM/source/LICENSE"; } > "$below/$doc/copyright"
     { echo "causal-judge ($DEBIAN) unstable; urgency=medium"
       echo; echo "  * See CHANGELOG.md."; echo
       echo " -- $(git -C "$ROOT" log -1 --format='%an <%ae>')  $(date --rfc-email --date "@$SOURCE_DATE_EPOCH")"
@@ -247,6 +255,8 @@ causal-judge: unstripped-binary-or-object [usr/bin/causal_judge]
 causal-judge: extra-license-file [$doc/LICENSE]" > "$below/usr/share/lintian/overrides/causal-judge"
     chmod 644 "$below/usr/share/lintian/overrides/causal-judge"
     mkdir "$below/DEBIAN"
+    put 755 "$HERE/postinst" "$below/DEBIAN/postinst"
+    put 755 "$HERE/prerm" "$below/DEBIAN/prerm"
     cat > "$below/DEBIAN/control" <<END
 Package: causal-judge
 Version: $DEBIAN
@@ -254,6 +264,7 @@ Architecture: amd64
 Maintainer: $(git -C "$ROOT" log -1 --format='%an <%ae>')
 Installed-Size: $(kibibytes "$below/usr")
 Depends: libc6 (>= $LEAST)
+Suggests: python3 (>= 3.10)
 Section: science
 Priority: optional
 Description: judge of causal consistency
@@ -273,7 +284,7 @@ wheel() {
     put_pages "$below/share/doc/causal-judge"
     mkdir -p "$below/share"
     for file in "$ROOM"/man/*.1; do put 644 "$file" "$below/share/man/man1/${file##*/}"; done
-    python3 "$HERE/wheel.py" "$PROGRAM" "$ROOM/pages/python/causal_judge" "$below" "$WHEEL" "$(least "$PROGRAM" | cut -d . -f 2)" "$OUT"
+    python3 "$HERE/wheel.py" "$PROGRAM" "$ROOM/source/python/causal_judge" "$below" "$WHEEL" "$(least "$PROGRAM" | cut -d . -f 2)" "$OUT"
 }
 
 tarball

@@ -13,8 +13,10 @@ import subprocess
 import sys
 from typing import NamedTuple
 
+TOPICS = ("forms", "refusals")
+FILES = "_files"
 ENTRY = re.compile(r"  (\S+)  +(.*)")
-OPTION = re.compile(r"  (?:(-\w), |    )(--\w[\w-]*)(?: <(\w+)>)?  +(.*)")
+OPTION = re.compile(r"  (?:(-\w)(?:, )?|    )(--\w[\w-]*)?(?: <(\w+)>)?  +(.*)")
 ARGUMENT = re.compile(r"  <(\w+)>  .*: (\w+) or (\w+)")
 
 
@@ -28,12 +30,13 @@ class Option(NamedTuple):
 
 
 class Command(NamedTuple):
-    """A command: its name, what is said of it, its options and the words of its argument."""
+    """A command: its name, what is said of it, its options, the words of its argument, and whether it takes files."""
 
     name: str
     text: str
     options: list
     words: list
+    takes_files: bool
 
 
 def help_of(program, *words):
@@ -62,11 +65,13 @@ def read(program):
         name, text = ENTRY.fullmatch(entry).groups()
         own = help_of(program, name) if name != "help" else []
         words = [word for line in section(own, "Arguments:") if (found := ARGUMENT.fullmatch(line)) for word in found.groups()[1:]]
-        commands.append(Command(name, text, options_of(own), words))
+        takes_files = any(line.startswith("  [FILE]") for line in section(own, "Arguments:"))
+        commands.append(Command(name, text, options_of(own), words, takes_files))
     for command in commands:
         if command.name == "help":
             command.words.extend(other.name for other in commands)
-    return Command("causal_judge", lines[0], options_of(lines), []), commands
+            command.words.extend(TOPICS)
+    return Command("causal_judge", lines[0], options_of(lines), [], False), commands
 
 
 def spelled(command):
@@ -108,7 +113,7 @@ def plain(text):
 def zsh_option(option):
     """An option as zsh's `_arguments` takes it."""
     words = [word for word in (option.short, option.long) if word]
-    return " ".join(quoted(f"{word}[{plain(option.text)}]" + (f":{option.value}:" if option.value else "")) for word in words)
+    return " ".join(quoted(f"{word}[{plain(option.text)}]" + (f":{option.value}:{FILES if option.value == 'FILE' else ''}" if option.value else "")) for word in words)
 
 
 def zsh(program, commands):
@@ -118,6 +123,7 @@ def zsh(program, commands):
     for command in commands:
         parts = [zsh_option(option) for option in command.options]
         parts += [quoted(f"1:word:({' '.join(command.words)})")] if command.words else []
+        parts += [quoted(f"*:file:{FILES}")] if command.takes_files else []
         cases += f"        {command.name}) _arguments {' '.join(parts)} ;;\n" if parts else f"        {command.name}) ;;\n"
     own = " ".join(zsh_option(option) for option in program.options)
     return f"""#compdef causal_judge
@@ -148,8 +154,9 @@ def fish(program, commands):
 
     def said(where, option):
         short = f" -s {option.short[1:]}" if option.short else ""
-        value = " -x" if option.value else ""
-        return f"complete -c causal_judge -n '{where}'{short} -l {option.long[2:]}{value} -d {quoted(option.text)}"
+        long = f" -l {option.long[2:]}" if option.long else ""
+        value = "" if not option.value else " -r" if option.value == "FILE" else " -x"
+        return f"complete -c causal_judge -n '{where}'{short}{long}{value} -d {quoted(option.text)}"
 
     lines += [said("__fish_use_subcommand", option) for option in program.options]
     for command in commands:

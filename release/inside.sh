@@ -38,7 +38,7 @@ export PKG_CONFIG_PATH=$LIB/pkgconfig
 
 no_kit() { ! command -v rt && [ ! -e /opt/rattle ]; }
 found() { [ "$(realpath "$(command -v causal_judge)")" = "$(realpath "$BASE/bin/causal_judge")" ]; }
-says_version() { [ "$(causal_judge --version | cut -d ' ' -f 2)" = "$VERSION" ]; }
+says_version() { [ "$(causal_judge --version | sed -n 1p | cut -d ' ' -f 2)" = "$VERSION" ]; }
 says_build() { grep "^version $VERSION$" "$DOC/BUILD" && grep '^gate ' "$DOC/BUILD"; }
 # A page of the manual, as a reader gets it.
 has_page() { man "$1" | col -bx | tr -s ' \n' ' ' | grep -F -- "$2"; }
@@ -78,17 +78,35 @@ python_sample() {
     compared python3 "$DOC/embed/causal_judge.py"
 }
 
-# The package, as the wheel installs it or as the pages have it: it finds the program, and writes and judges a log.
+# The package, as the wheel or the Debian package installs it, or as the pages of the tarball have it: it finds the program, and writes and
+# judges a log.
 python_package() {
-    [ "$NAME" = wheel ] || export PYTHONPATH="$DOC/python"
+    [ "$NAME" != tarball ] || export PYTHONPATH="$DOC/python"
     python3 - <<'END'
 from causal_judge import Recorder, assert_met
 
 with Recorder("package.jsonl") as recorder, recorder.client("alice") as alice:
-    alice.write("key", alice.new_value(), lambda: None)
+    value = alice.new_value()
+    alice.write("key", value, lambda: None)
+    alice.read("key", lambda: value)
 assert_met("package.jsonl")
 END
 }
+
+# The package is where Debian's Python finds it, and so does pytest its plugin.
+debian_python() {
+    (cd / && /usr/bin/python3) <<'END'
+import importlib.metadata
+import causal_judge
+
+assert causal_judge.__file__ == "/usr/lib/python3/dist-packages/causal_judge/__init__.py", causal_judge.__file__
+(plugin,) = [found for found in importlib.metadata.entry_points(group="pytest11") if found.name == "causal_judge"]
+assert plugin.value == "causal_judge.pytest_plugin", plugin
+END
+}
+
+# What Python compiled of the package is removed with it.
+is_removed() { dpkg --remove causal-judge && ! compgen -G "/usr/lib/python3/dist-packages/causal_judge*" && [ ! -e /usr/bin/causal_judge ]; }
 
 go_sample() {
     cp "$DOC/embed/judge.go" . && go build -tags installed -o judge_go judge.go && compared ./judge_go
@@ -113,6 +131,7 @@ try "the program is found" found
 try "its version" says_version
 try "its BUILD" says_build
 try "the Python package" python_package
+[ "$NAME" != deb ] || try "the Python package of Debian's Python" debian_python
 try "man causal_judge" has_page causal_judge "Judges a recorded history"
 try "man causal_judge-judge" has_page causal_judge-judge "Judges a history in each line"
 try "its statuses" has_page causal_judge-judge "Status: 0 answered, whatever the verdict"
@@ -134,4 +153,5 @@ read -r PAGES_PASSED PAGES_FAILED < <(echo "$SAID" | tail -1 | sed -n 's/^\([0-9
 [ "${PAGES_PASSED:-0}" != 0 ] && [ "${PAGES_FAILED:-1}" = 0 ] || echo "$SAID"
 echo "$NAME: $PAGES_PASSED commands of README.md as it shows them"
 PASSED=$((PASSED + ${PAGES_PASSED:-0})) FAILED=$((FAILED + ${PAGES_FAILED:-1}))
+[ "$NAME" != deb ] || try "nothing is left of a package that is removed" is_removed
 echo "$PASSED passed, $FAILED failed$([ $SKIPPED = 0 ] || echo ", $SKIPPED skipped")"

@@ -31,9 +31,8 @@ def below(folder):
             yield path.relative_to(folder), path.read_bytes()
 
 
-def files_of(program, package, data, version, tag):
-    """The files of the wheel: their names, their bytes and their modes, without RECORD."""
-    info, carried = f"{NAME}-{version}.dist-info", f"{NAME}-{version}.data"
+def metadata(version):
+    """What the file METADATA says."""
     lines = [
         "Metadata-Version: 2.1",
         f"Name: {NAME}",
@@ -42,7 +41,13 @@ def files_of(program, package, data, version, tag):
         "Requires-Python: >=3.10",
         "",
     ]
-    yield f"{info}/METADATA", "\n".join(lines).encode(), 0o644
+    return "\n".join(lines).encode()
+
+
+def files_of(program, package, data, version, tag):
+    """The files of the wheel: their names, their bytes and their modes, without RECORD."""
+    info, carried = f"{NAME}-{version}.dist-info", f"{NAME}-{version}.data"
+    yield f"{info}/METADATA", metadata(version), 0o644
     yield f"{info}/WHEEL", f"Wheel-Version: 1.0\nGenerator: release/wheel.py\nRoot-Is-Purelib: false\nTag: {tag}\n".encode(), 0o644
     yield f"{info}/entry_points.txt", PLUGIN.encode(), 0o644
     yield f"{carried}/scripts/{NAME}", program.read_bytes(), 0o755

@@ -17,6 +17,17 @@ finds nothing is left out, but for the keys that no run deletes: there it is a r
 Then 100 of these runs are recorded by each of three recipes that blame correct stores: a retry as one call with its first try, in a log and in
 a history, and each read that finds nothing as a read of 0 in a history. Some of them have to be a `no`, else such runs could not tell a wrong
 recipe.
+
+Half as many runs of each situation below are recorded as logs, by the recipe that is right there and by one that is wrong. Half of these
+logs end anywhere. By a right recipe none is a `no`. By a wrong one at least one is, by itself.
+
+    compare-and-sets           a write that begins before the call; wrong: a read and a write that are recorded after its answer
+    new connections            after a loss a client connects to any replica, and is a new one; wrong: it is the same one
+    answers of another type    numbers that are answered as texts are numbers again; wrong: they are texts
+    deletes that find nothing  done where each leaves a tombstone, lost where it may, failed where none does; wrong: failed where one may
+
+Runs of one kind of store are judged as one log, since they have neither clients nor keys in common. Where that is a `no`, it is halved until
+one run is left.
 """
 
 import argparse
@@ -27,6 +38,7 @@ import pathlib
 import random
 import subprocess
 import sys
+from collections.abc import Callable
 from concurrent.futures import ThreadPoolExecutor
 from typing import NamedTuple
 
@@ -44,7 +56,8 @@ CLIENTS, CALLS, TRIES = 4, 20, 3
 KEYS, DELETED_KEYS = 4, (2, 3)
 TRAVEL, LATE, MESSAGES, PAUSES, TIME_OUT = (0.1, 1.0), (4.0, 30.0), (0.1, 10.0), (0.0, 2.0), 5.0
 LOST_SHARE, LATE_SHARE, REFUSED_SHARE, DELETE_SHARE, STOP_SHARE = 0.03, 0.06, 0.03, 0.3, 0.25
-BLAMING_RUNS, LEAST_BLAMED = 100, 3
+BLAMING_RUNS, LEAST_BLAMED, SITUATED_BLAMING_RUNS = 100, 3, 300
+SLOW_MESSAGES, CUT_SHARE, JUDGED_TOGETHER = (0.1, 40.0), 0.5, 25
 
 
 class Kind(NamedTuple):
@@ -73,13 +86,13 @@ WRONG = {
 
 
 class Log:
-    """A log of events, to which the clients of a run append."""
+    """A log of events, to which the clients of a run append. A run with a name shares neither clients nor keys with others."""
 
-    def __init__(self):
-        self.lines, self.values, self.clients = [], itertools.count(1), itertools.count()
+    def __init__(self, name=""):
+        self.name, self.lines, self.values, self.clients = name, [], itertools.count(1), itertools.count()
 
     def session(self):
-        return Client(self, f"client {next(self.clients)}")
+        return Client(self, f"{self.name}client {next(self.clients)}")
 
     def new_value(self):
         return next(self.values)
@@ -94,8 +107,9 @@ class Client:
     def __init__(self, log, name):
         self.log, self.name, self.is_over = log, name, True
 
-    def begin(self, *call):
-        self.log.lines.append(["begin", self.name, list(call)])
+    def begin(self, word, key, *value):
+        name = f"{self.log.name}key {key}" if self.log.name else key
+        self.log.lines.append(["begin", self.name, [word, name, *value]])
         self.is_over = False
         return self
 
@@ -148,8 +162,8 @@ class Replica:
 class Store:
     """The replicas, and the network between them and to their clients."""
 
-    def __init__(self, kind, simulation, rng):
-        self.simulation, self.rng = simulation, rng
+    def __init__(self, kind, simulation, rng, messages=MESSAGES):
+        self.simulation, self.rng, self.messages = simulation, rng, messages
         self.replicas = [Replica(kind) for _ in range(kind.replicas)]
 
     def travel(self):
@@ -170,9 +184,9 @@ class Store:
         yield there + back
         return given[0]
 
-    def write(self, at, key, value):
+    def write(self, at, key, value, refused=REFUSED_SHARE):
         """A replica is asked to write, or to delete where there is no value: whether it did."""
-        if self.rng.random() < REFUSED_SHARE:
+        if self.rng.random() < refused:
             return False
         sender = self.replicas[at]
         update = Update(at, tuple(sender.seen), (sender.clock + 1, at), key, value)
@@ -180,12 +194,23 @@ class Store:
             if replica is sender:
                 replica.take_in(update)
             else:
-                self.simulation.after(self.rng.uniform(*MESSAGES), lambda replica=replica: replica.receive(update))
+                self.simulation.after(self.rng.uniform(*self.messages), lambda replica=replica: replica.receive(update))
         return True
 
     def read(self, at, key):
         """What a replica holds under a key, if anything."""
         return self.replicas[at].entries.get(key, (None, None))[1]
+
+    def compare_and_set(self, at, key, expected, value):
+        """A replica is asked to write where it holds what is expected, or nothing where nothing is: whether it did."""
+        return self.read(at, key) == expected and self.write(at, key, value)
+
+    def delete(self, at, key, tombstones):
+        """A replica is asked to delete. It leaves a tombstone also where it finds nothing, in this share of deletes: whether it found something."""
+        is_there = self.read(at, key) is not None
+        if is_there or self.rng.random() < tombstones:
+            self.write(at, key, None, refused=0)
+        return is_there
 
 
 def write(store, history, session, at, key, is_delete, recipe):
@@ -265,6 +290,130 @@ def recorded(seed, recipe):
     return history.text()
 
 
+class User:
+    """A client in a situation: its session, its replica, and what it saw last of each key. It records by a recipe, which has a name."""
+
+    def __init__(self, store, log, at, recipe):
+        self.store, self.log, self.at, self.recipe, self.session, self.seen = store, log, at, recipe, log.session(), {}
+
+    def ask(self, call, action):
+        """Has a call that has begun act at the replica: whether an answer came, and that."""
+        try:
+            return True, (yield from self.store.ask(action))
+        except TimedOut:
+            call.give_up()
+            return False, None
+
+    def write(self, key):
+        """A call of a write: whether an answer came."""
+        at, value = self.at, self.log.new_value()
+        call = self.session.begin("w", key, value)
+        is_answered, is_taken = yield from self.ask(call, lambda: self.store.write(at, key, value))
+        if is_answered:
+            (call.end if is_taken else call.drop)()
+        return is_answered
+
+    def read(self, key, recorded=lambda value: value):
+        """A call of a read: whether an answer came. The log has what is recorded for the value."""
+        at, call = self.at, self.session.begin("r", key)
+        is_answered, value = yield from self.ask(call, lambda: self.store.read(at, key))
+        if is_answered:
+            self.seen[key] = value
+            call.end(None if value is None else recorded(value))
+        return is_answered
+
+
+def compare(user, key):
+    """A read, or a compare-and-set of what the client saw last."""
+    if user.store.rng.random() < 0.5:
+        yield from user.read(key)
+        return
+    expected, value = user.seen.get(key), user.log.new_value()
+    if user.recipe == "a write that begins before":
+        user.session.begin("w", key, value)
+    try:
+        is_done = yield from user.store.ask(lambda: user.store.compare_and_set(user.at, key, expected, value))
+    except TimedOut:
+        is_done = None
+    if user.recipe == "a read and a write after the answer":
+        if is_done:
+            user.session.begin("r", key).end(expected)
+        user.session.begin("w", key, value)
+    {True: user.session.end, False: user.session.drop, None: user.session.give_up}[is_done]()
+
+
+def connect_anew(user, key):
+    """A write or a read. Where no answer came, the client connects to a replica, which knows nothing of what the client saw."""
+    is_answered = yield from (user.write(key) if user.store.rng.random() < 0.5 else user.read(key))
+    if not is_answered:
+        user.at = user.store.rng.randrange(len(user.store.replicas))
+        if user.recipe == "a new client":
+            user.session = user.log.session()
+
+
+def answer_texts(user, key):
+    """A write of a number, or a read, which is answered by the number's text."""
+    if user.store.rng.random() < 0.5:
+        yield from user.write(key)
+    else:
+        answers = {"numbers": int, "texts": str}[user.recipe]
+        yield from user.read(key, lambda value: answers(str(value)))
+
+
+def delete(user, key, tombstones, share):
+    """A write, a read, or a delete in this share of calls: the recipe says how one that found nothing is recorded."""
+    if user.store.rng.random() > share:
+        yield from (user.write(key) if user.store.rng.random() < 0.5 else user.read(key))
+        return
+    call = user.session.begin("d", key)
+    is_answered, is_found = yield from user.ask(call, lambda: user.store.delete(user.at, key, tombstones))
+    if is_answered:
+        (call.end if is_found else {"done": call.end, "lost": call.give_up, "failed": call.drop}[user.recipe])()
+
+
+class Situation(NamedTuple):
+    """What clients call, of which calls a recorder has to take care; how they are recorded rightly, and how wrongly, if that shows in random
+    runs; and how long messages between replicas take."""
+
+    name: str
+    call: Callable
+    right: str
+    wrong: str = ""
+    messages: tuple = MESSAGES
+
+
+SITUATIONS = (
+    Situation("compare-and-sets", compare, "a write that begins before", "a read and a write after the answer"),
+    Situation("new connections", connect_anew, "a new client", "the same client", SLOW_MESSAGES),
+    Situation("answers of another type", answer_texts, "numbers", "texts"),
+    Situation("deletes that leave a tombstone", lambda user, key: delete(user, key, 1.0, 0.05), "done", "failed"),
+    Situation("deletes that may leave a tombstone", lambda user, key: delete(user, key, 0.5, 0.1), "lost", "failed"),
+    Situation("deletes that leave nothing", lambda user, key: delete(user, key, 0.0, 0.2), "failed"),
+)
+
+
+def user_of(store, log, at, situation, recipe):
+    """A client in a situation, which calls and pauses. It may stop in the middle of a call, of which its request goes its way."""
+    user, stops = User(store, log, at, recipe), store.rng.random() < STOP_SHARE
+    for _ in range(store.rng.randrange(CALLS) if stops else CALLS):
+        yield store.rng.uniform(*PAUSES)
+        yield from situation.call(user, store.rng.randrange(KEYS))
+    if stops:
+        next(situation.call(user, store.rng.randrange(KEYS)))
+
+
+def situated(seed, situation, recipe):
+    """The log of one run in a situation, which may end anywhere."""
+    kind, simulation, log = KINDS[seed % len(KINDS)], Simulation(), Log(f"{seed} ")
+    store = Store(kind, simulation, random.Random(seed), situation.messages)
+    for number in range(CLIENTS):
+        simulation.start(user_of(store, log, number % kind.replicas, situation, recipe))
+    simulation.run()
+    if store.rng.random() < CUT_SHARE:
+        del log.lines[store.rng.randrange(len(log.lines)) :]
+    return log.text()
+
+
 def lines_of(text):
     """What the lines of a report say of each criterion."""
     return dict(word.split(" ", 1) for word in text.split("; ")) if "; " in text else {}
@@ -291,6 +440,45 @@ def faults(seed, lines):
     return [f"{criterion} {lines.get(criterion)}" for criterion in KINDS[seed % len(KINDS)].promised if lines.get(criterion) != "yes"]
 
 
+def blamed_run(program, runs):
+    """The first of these runs, of one kind of store, of which something promised is no yes; none where there is none. A run is its seed and
+    its log."""
+    seed = runs[0][0]
+
+    def is_met(some):
+        return not faults(seed, verdict_of_log(program, "".join(text for _, text in some)))
+
+    if is_met(runs):
+        return None
+    while len(runs) > 1:
+        half = len(runs) // 2
+        runs = runs[half:] if is_met(runs[:half]) else runs[:half]
+    return runs[0]
+
+
+def blamed_runs(program, count, situation, recipe):
+    """Of so many runs in a situation, one of each JUDGED_TOGETHER of which something promised is no yes, if any."""
+    step = len(KINDS) * JUDGED_TOGETHER
+    for first, kind in itertools.product(range(0, count, step), range(len(KINDS))):
+        runs = [(seed, situated(seed, situation, recipe)) for seed in range(first + kind, min(count, first + step), len(KINDS))]
+        if runs and (found := blamed_run(program, runs)):
+            yield found
+
+
+def judge_situation(program, count, situation):
+    """Judges runs in a situation; gives how many came out as they should, and how many did not. By a wrong recipe one has to be a `no`."""
+    found = list(blamed_runs(program, count, situation, situation.right))
+    for seed, text in found:
+        print(f"{situation.name}, recorded as {situation.right}: seed {seed}: {text}", flush=True)
+    if not situation.wrong:
+        return count - len(found), len(found)
+    seed, text = next(blamed_runs(program, SITUATED_BLAMING_RUNS, situation, situation.wrong), (0, ""))
+    said = "; ".join(faults(seed, verdict_of_log(program, text)))
+    is_blamed = " no " in said
+    print(f"{situation.name}, recorded as {situation.wrong}: seed {seed}: {said or 'no run is a no'}", flush=True)
+    return count - len(found) + is_blamed, len(found) + (not is_blamed)
+
+
 def main():
     parser = argparse.ArgumentParser(description=__doc__, formatter_class=argparse.RawDescriptionHelpFormatter)
     parser.add_argument("runs", type=int)
@@ -308,7 +496,9 @@ def main():
         blamed = sum(" no " in "; ".join(faults(seed, lines)) for seed, lines in enumerate(found))
         print(f"{name}: {blamed} of {BLAMING_RUNS} runs are a no", flush=True)
         passed, failed = passed + (blamed >= LEAST_BLAMED), failed + (blamed < LEAST_BLAMED)
-    end(passed, failed)
+    with ThreadPoolExecutor(os.cpu_count() or 2) as pool:
+        counts = list(pool.map(lambda situation: judge_situation(given.program, given.runs // 2, situation), SITUATIONS))
+    end(passed + sum(count[0] for count in counts), failed + sum(count[1] for count in counts))
 
 
 if __name__ == "__main__":

@@ -1,9 +1,10 @@
-"""The commands of the package, over logs of events.
+"""Makes logs of events for the program causal_judge.
 
-    python3 -m causal_judge merge FILE.. > FILE          joins the logs of several processes
-    python3 -m causal_judge import FORMAT < FILE > FILE  writes a log of another form of histories
+    python3 -m causal_judge merge a.jsonl b.jsonl > run.jsonl
+    python3 -m causal_judge import jepsen < history.edn > run.jsonl
 
-What was joined, or left out, is counted on standard error. The status is 0, or 1 where a file can't be read or is refused.
+What was joined, or left out, is counted on standard error. The status is 0; 1
+where a file can't be read or is refused; 2 where the command line is wrong.
 """
 
 from __future__ import annotations
@@ -12,9 +13,10 @@ import argparse
 import sys
 from collections import Counter
 from io import TextIOWrapper
-from typing import BinaryIO
+from typing import Any, BinaryIO
 
 from causal_judge.events import line_of
+from causal_judge.importers import ABOUT, FORMATS
 from causal_judge.merging import merge
 
 NOT_WHOLE = b'"the history was refused, and this is a part of it"\n'
@@ -37,8 +39,6 @@ def import_file(given: argparse.Namespace) -> None:
 
     Where the history is refused, what was written until then ends with a line that is no event: a part of a history is not judged.
     """
-    from causal_judge.importers import FORMATS
-
     importer = FORMATS.get(given.format)
     if importer is None:
         raise ValueError(f"there is no format {given.format}: there are {', '.join(FORMATS)}")
@@ -54,19 +54,59 @@ def import_file(given: argparse.Namespace) -> None:
         print(f"left out: {count} {reason}", file=sys.stderr)
 
 
+MERGING = """Joins the logs of several processes, each with clients of its own.
+
+    python3 -m causal_judge merge a.jsonl b.jsonl > run.jsonl
+
+A torn end of a file is dropped, and each call that is pending there is recorded
+as lost. The order of the files is no order of time: judge the joined log as a
+whole, without --every.
+"""
+IMPORTING = """Writes the log of a recording that another tool made.
+
+    python3 -m causal_judge import FORMAT < RECORDING > run.jsonl
+
+The formats, and where such a recording comes from:
+
+{formats}
+
+What is left out is counted on standard error. Where a recording is refused, the
+last line written is no event: so no part of it is judged. Judge the log as a
+whole, without --every. docs/importers.md says what each form becomes, and why
+that blames no correct store.
+"""
+
+
+class Parser(argparse.ArgumentParser):
+    """A parser of words whose help is a text as it stands."""
+
+    def __init__(self, **how: Any) -> None:
+        super().__init__(formatter_class=argparse.RawDescriptionHelpFormatter, **how)
+
+
+def about_formats() -> str:
+    """The formats of imports in words, each with the source of such recordings."""
+    room = max(map(len, ABOUT)) + 2
+    return "\n".join(f"  {name:{room}}{what}\n  {'':{room}}{source}" for name, (what, source) in ABOUT.items())
+
+
+def parser() -> Parser:
+    """What reads the words of a command line."""
+    outer = Parser(prog="python3 -m causal_judge", description=__doc__)
+    commands = outer.add_subparsers(required=True, title="commands", metavar="COMMAND")
+    merging = commands.add_parser("merge", help="join the logs of several processes", description=MERGING)
+    merging.add_argument("files", nargs="+", metavar="FILE", help="a log of events")
+    merging.set_defaults(action=merge_files)
+    help_on_formats = f"write the log of a recording of another tool: FORMAT is {', '.join(ABOUT)}; `import --help` says more"
+    importing = commands.add_parser("import", help=help_on_formats, description=IMPORTING.format(formats=about_formats()))
+    importing.add_argument("format", metavar="FORMAT", help="one of the formats above")
+    importing.set_defaults(action=import_file)
+    return outer
+
+
 def main() -> int:
     """Does what the words say; gives the status."""
-    parser = argparse.ArgumentParser(
-        prog="python3 -m causal_judge", description=__doc__, formatter_class=argparse.RawDescriptionHelpFormatter
-    )
-    commands = parser.add_subparsers(required=True, metavar="COMMAND")
-    merging = commands.add_parser("merge", help="join the logs of several processes")
-    merging.add_argument("files", nargs="+", metavar="FILE")
-    merging.set_defaults(action=merge_files)
-    importing = commands.add_parser("import", help="write a log of another form of histories")
-    importing.add_argument("format", metavar="FORMAT")
-    importing.set_defaults(action=import_file)
-    given = parser.parse_args()
+    given = parser().parse_args()
     try:
         given.action(given)
     except BrokenPipeError:

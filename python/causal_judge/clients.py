@@ -10,8 +10,9 @@ from collections.abc import Awaitable, Callable, Coroutine, Iterator
 from types import TracebackType
 from typing import TYPE_CHECKING, Any, Concatenate, ParamSpec, TypeAlias, TypeVar, Union
 
-from causal_judge.calls import Call, Fails, always, check_fails
+from causal_judge.calls import Call, Done, Rules, always, is_done
 from causal_judge.events import Event, Name, Value, check_name
+from causal_judge.notes import Note
 
 if TYPE_CHECKING:
     from causal_judge.recorder import Recorder
@@ -29,48 +30,63 @@ class _AnyClient:
     """What both kinds of clients have: a name, new values, and calls that begin and end apart.
 
     As a context manager it records a call that is still pending at the end as lost. Afterwards it records nothing.
+
+    A `note` of a call is any JSON, which the judge passes over: the server that is asked, or a request's id. A value stands in the line of
+    the begin. A function is asked when the call ended, and what it gives stands in the line of the end. None is no note.
     """
 
-    def __init__(self, recorder: Recorder, name: Name, fails: Fails) -> None:
+    def __init__(self, recorder: Recorder, name: Name, rules: Rules) -> None:
         check_name(name)
-        check_fails(fails)
         self.name = name
         self._recorder = recorder
-        self._fails = fails
-        self._is_over = False
+        self._rules = rules
+        self._over = ""
 
     def new_value(self) -> str:
         """A value that no client of the run was given before, "alice.17" for alice: also after the log was opened again."""
         return self._recorder.new_value(self.name)
 
-    def begin_write(self, key: Name, value: Value) -> Call:
+    def begin_write(self, key: Name, value: Value, *, note: Note = None) -> Call:
         """Records that a write begins, before the store is called. Its Call is ended when the answer came.
 
-        Raises TypeError or ValueError where the key or the value has no form, RuntimeError where a call of this client is pending or where
-        the client or its recorder is closed, and OSError where the log can't be written. Then nothing was recorded.
+        A compare-and-set begins so too, and ends by `settle(answer, done)`, or by `end`, `fail` or `lost`.
+
+        Raises TypeError or ValueError where the key, the value or the note has no form, RuntimeError where a call of this client is pending
+        or where the client or its recorder is closed, and OSError where the log can't be written. Then nothing was recorded.
         """
-        return self._begin(["w", key, value])
+        return self._begin(["w", key, value], note)
 
-    def begin_read(self, key: Name) -> Call:
+    def begin_read(self, key: Name, *, note: Note = None) -> Call:
         """Records that a read begins, as begin_write does of a write."""
-        return self._begin(["r", key])
+        return self._begin(["r", key], note)
 
-    def begin_delete(self, key: Name) -> Call:
+    def begin_delete(self, key: Name, *, note: Note = None) -> Call:
         """Records that a delete begins, as begin_write does of a write."""
-        return self._begin(["d", key])
+        return self._begin(["d", key], note)
 
-    def _begin(self, event: Event) -> Call:
-        if self._is_over:
-            raise RuntimeError(f"the client {self.name!r} is over: its block was left")
-        return Call(self._recorder, self.name, event, self._fails)
+    def reconnected(self: Self) -> Self:
+        """The client that goes on over a new connection, with a name that no client of the log has: "alice#2" for alice.
+
+        It is for a store that promises its sessions per connection: there a new connection that takes nothing along of the old session, as
+        a token, is a new client. A call of this client that is pending is recorded as lost, and afterwards it records nothing. RuntimeError
+        where the recorder is closed.
+        """
+        successor = type(self)(self._recorder, self._recorder.new_name(self.name), self._rules)
+        self._leave(f"it goes on as {successor.name!r}")
+        return successor
+
+    def _begin(self, event: Event, note: Note) -> Call:
+        if self._over:
+            raise RuntimeError(f"the client {self.name!r} is over: {self._over}")
+        return Call(self._recorder, self.name, event, self._rules, note)
 
     @contextlib.contextmanager
-    def _try(self, key: Name, value: Value, answers: list[T]) -> Iterator[None]:
+    def _try(self, key: Name, value: Value, answers: list[T], note: Note) -> Iterator[None]:
         """One try of a write: its block makes the call, and adds the answer to the list.
 
         An exception by which the try is lost ends here, so that another try may follow. Every other one is raised on.
         """
-        with self.begin_write(key, value) as pending:
+        with self.begin_write(key, value, note=note) as pending:
             try:
                 yield
             except Exception as error:
@@ -80,8 +96,8 @@ class _AnyClient:
             else:
                 pending.settle(answers[0])
 
-    def _leave(self) -> None:
-        self._is_over = True
+    def _leave(self, why: str = "its block was left") -> None:
+        self._over = self._over or why
         pending = self._recorder.pending_call(self.name)
         if pending is not None:
             with contextlib.suppress(RuntimeError):
@@ -102,32 +118,49 @@ class Client(_AnyClient):
     and OSError where the end can't be written, after it was called.
     """
 
-    def write(self, key: Name, value: Value, call: Callable[[], T]) -> T:
+    def write(self, key: Name, value: Value, call: Callable[[], T], *, note: Note = None) -> T:
         """Writes a value, which should be new in the run, by this call of the store."""
-        with self.begin_write(key, value) as pending:
-            answer = call()
-            pending.settle(answer)
-        return answer
+        return self._made(self.begin_write(key, value, note=note), call)
 
-    def read(self, key: Name, call: Callable[[], Found]) -> Found:
+    def compare_and_set(self, key: Name, value: Value, call: Callable[[], T], *, done: Done[T] = is_done, note: Note = None) -> T:
+        """Writes a value, which should be new in the run, by a call that writes only if the key holds what it expects.
+
+        It is recorded as a write that begins before the call: answered where the call returns something true, and failed where it returns
+        something false, by which the store says that nothing was written on any replica. `done` says this of other answers, and None where
+        it is not known: then the write is lost. What was compared is not recorded. Where the call returns None, and there is no `done`, the
+        write is lost and TypeError is raised.
+        """
+        return self._made(self.begin_write(key, value, note=note), call, done)
+
+    def read(self, key: Name, call: Callable[[], Found], *, note: Note = None) -> Found:
         """Reads by this call, which returns the value, or None where the key holds nothing.
 
-        Where it returns what is no value, as bytes or a list, the read is recorded as lost, and TypeError or ValueError says what to do.
+        The log has what the recorder's or the client's rule `answers` makes of the value. Where that is none, as bytes or a list, the read
+        is recorded as lost, and TypeError or ValueError says what to do.
         """
-        with self.begin_read(key) as pending:
+        with self.begin_read(key, note=note) as pending:
             found = call()
             pending.end(found)
         return found
 
-    def delete(self, key: Name, call: Callable[[], T], *, found: Callable[[T], bool] = always) -> T:
-        """Deletes by this call. Where `found` is false of its answer, the key held nothing and the delete changed nothing."""
-        with self.begin_delete(key) as pending:
-            answer = call()
-            pending.settle(answer, found)
-        return answer
+    def delete(self, key: Name, call: Callable[[], T], *, found: Done[T] = always, note: Note = None) -> T:
+        """Deletes by this call.
+
+        Where `found` is false of its answer, the delete failed: the key held nothing, and nothing was changed on any replica. That is so of
+        a store that leaves nothing behind for such a delete. One that leaves a tombstone, or tells other replicas of it, did delete: then
+        leave `found` out. Where nobody knows which it was, have `found` give None: the delete is lost.
+        """
+        return self._made(self.begin_delete(key, note=note), call, found)
 
     def retry(
-        self, key: Name, call: Callable[[Any], T], *, make_value: Callable[[], Value] | None = None, tries: int = 3, pause: Pause = 0.0
+        self,
+        key: Name,
+        call: Callable[[Any], T],
+        *,
+        make_value: Callable[[], Value] | None = None,
+        tries: int = 3,
+        pause: Pause = 0.0,
+        note: Note = None,
     ) -> T:
         """Writes by calls that are tried up to so many times, each with a new value that `make_value` gives (new_value unless given).
 
@@ -139,13 +172,20 @@ class Client(_AnyClient):
         answers: list[T] = []
         for wait in _waits_of(tries, pause):
             value = make()
-            with self._try(key, value, answers):
+            with self._try(key, value, answers, note):
                 answers.append(call(value))
             if answers:
                 return answers[0]
             time.sleep(wait)
         value = make()
-        return self.write(key, value, lambda: call(value))
+        return self.write(key, value, lambda: call(value), note=note)
+
+    def _made(self, pending: Call, call: Callable[[], T], done: Done[T] = always) -> T:
+        """Makes the call of a write or a delete that has begun, and gives its answer."""
+        with pending:
+            answer = call()
+            pending.settle(answer, done)
+        return answer
 
     def writes(self, function: Callable[Concatenate[Key, Held, P], T]) -> Callable[Concatenate[Key, Held, P], T]:
         """A decorator: calls of `function(key, value, ..)` are writes of this client."""
@@ -166,9 +206,9 @@ class Client(_AnyClient):
         return read
 
     def deletes(
-        self, function: Callable[Concatenate[Key, P], T], *, found: Callable[[T], bool] = always
+        self, function: Callable[Concatenate[Key, P], T], *, found: Done[T] = always
     ) -> Callable[Concatenate[Key, P], T]:
-        """A decorator: calls of `function(key, ..)` are deletes of this client."""
+        """A decorator: calls of `function(key, ..)` are deletes of this client. `found` is as for delete."""
 
         @functools.wraps(function)
         def deleted(key: Key, /, *more: P.args, **named: P.kwargs) -> T:
@@ -180,26 +220,26 @@ class Client(_AnyClient):
 class AsyncClient(_AnyClient):
     """A client whose calls are awaited. It makes one call at a time, and does what Client does; a call that is cancelled is lost."""
 
-    async def write(self, key: Name, value: Value, call: Callable[[], Awaitable[T]]) -> T:
+    async def write(self, key: Name, value: Value, call: Callable[[], Awaitable[T]], *, note: Note = None) -> T:
         """Writes a value, which should be new in the run, by this call of the store."""
-        with self.begin_write(key, value) as pending:
-            answer = await call()
-            pending.settle(answer)
-        return answer
+        return await self._made(self.begin_write(key, value, note=note), call)
 
-    async def read(self, key: Name, call: Callable[[], Awaitable[Found]]) -> Found:
+    async def compare_and_set(
+        self, key: Name, value: Value, call: Callable[[], Awaitable[T]], *, done: Done[T] = is_done, note: Note = None
+    ) -> T:
+        """Writes a value, by a call that writes only if the key holds what it expects, as Client.compare_and_set does."""
+        return await self._made(self.begin_write(key, value, note=note), call, done)
+
+    async def read(self, key: Name, call: Callable[[], Awaitable[Found]], *, note: Note = None) -> Found:
         """Reads by this call, as Client.read does."""
-        with self.begin_read(key) as pending:
+        with self.begin_read(key, note=note) as pending:
             found = await call()
             pending.end(found)
         return found
 
-    async def delete(self, key: Name, call: Callable[[], Awaitable[T]], *, found: Callable[[T], bool] = always) -> T:
-        """Deletes by this call. Where `found` is false of its answer, the key held nothing and the delete changed nothing."""
-        with self.begin_delete(key) as pending:
-            answer = await call()
-            pending.settle(answer, found)
-        return answer
+    async def delete(self, key: Name, call: Callable[[], Awaitable[T]], *, found: Done[T] = always, note: Note = None) -> T:
+        """Deletes by this call, as Client.delete does."""
+        return await self._made(self.begin_delete(key, note=note), call, found)
 
     async def retry(
         self,
@@ -209,19 +249,27 @@ class AsyncClient(_AnyClient):
         make_value: Callable[[], Value] | None = None,
         tries: int = 3,
         pause: Pause = 0.0,
+        note: Note = None,
     ) -> T:
         """Writes by calls that are tried up to so many times, as Client.retry does. A cancelled try is not followed by another."""
         make = make_value or self.new_value
         answers: list[T] = []
         for wait in _waits_of(tries, pause):
             value = make()
-            with self._try(key, value, answers):
+            with self._try(key, value, answers, note):
                 answers.append(await call(value))
             if answers:
                 return answers[0]
             await _sleep(wait)
         value = make()
-        return await self.write(key, value, lambda: call(value))
+        return await self.write(key, value, lambda: call(value), note=note)
+
+    async def _made(self, pending: Call, call: Callable[[], Awaitable[T]], done: Done[T] = always) -> T:
+        """Makes the call of a write or a delete that has begun, and gives its answer."""
+        with pending:
+            answer = await call()
+            pending.settle(answer, done)
+        return answer
 
     def writes(
         self, function: Callable[Concatenate[Key, Held, P], Awaitable[T]]
@@ -244,9 +292,9 @@ class AsyncClient(_AnyClient):
         return read
 
     def deletes(
-        self, function: Callable[Concatenate[Key, P], Awaitable[T]], *, found: Callable[[T], bool] = always
+        self, function: Callable[Concatenate[Key, P], Awaitable[T]], *, found: Done[T] = always
     ) -> Callable[Concatenate[Key, P], Coroutine[Any, Any, T]]:
-        """A decorator: calls of `function(key, ..)` are deletes of this client."""
+        """A decorator: calls of `function(key, ..)` are deletes of this client. `found` is as for delete."""
 
         @functools.wraps(function)
         async def deleted(key: Key, /, *more: P.args, **named: P.kwargs) -> T:

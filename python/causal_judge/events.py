@@ -1,6 +1,7 @@
 """The form of an event, one line of a log: which names and values there are, the text of a line, and how a log is read.
 
 docs/events.md of the repository has the whole form. An event is here the list that its JSON is, as `["begin", "alice", ["w", "k", "v1"]]`.
+All but a `start` may have one element more, which is a note: any JSON, as the server that was asked.
 """
 
 from __future__ import annotations
@@ -8,7 +9,8 @@ from __future__ import annotations
 import itertools
 import json
 import math
-from collections.abc import Iterator
+import re
+from collections.abc import Container, Iterator
 from typing import Any, BinaryIO, NoReturn, TypeAlias
 
 Name: TypeAlias = str | int
@@ -19,6 +21,7 @@ NAMES = range(2**64)
 VALUES = range(-(2**63), 2**64)
 MOST_LINE = 1_000_000
 BLANKS = b" \t\r\n"
+NUMBERED = re.compile(r"(.*)#([1-9][0-9]{0,17})", re.DOTALL)
 
 
 class LogError(ValueError):
@@ -64,18 +67,25 @@ def is_same(one: Value, other: Value) -> bool:
     return isinstance(one, bool) == isinstance(other, bool) and one == other
 
 
+def next_name(name: Name, taken: Container[Name]) -> str:
+    """A name for the client that another one is after it connected anew, which is not taken: "alice#2" for "alice", and then "alice#3"."""
+    found = NUMBERED.fullmatch(name) if isinstance(name, str) else None
+    stem, number = (found[1], int(found[2])) if found else (name, 1)
+    return next(other for count in itertools.count(number + 1) if (other := f"{stem}#{count}") not in taken)
+
+
 def check_event(event: object) -> None:
-    """Raises TypeError or ValueError where this is no form of an event."""
+    """Raises TypeError or ValueError where this is no form of an event. Of a note nothing is asked."""
     match event:
-        case ["start", key, value] | ["begin", _, ["w", key, value]]:
+        case ["start", key, value] | ["begin", _, ["w", key, value]] | ["begin", _, ["w", key, value], _]:
             check_name(key)
             check_value(value)
-        case ["begin", _, ["r" | "d", key]]:
+        case ["begin", _, ["r" | "d", key]] | ["begin", _, ["r" | "d", key], _]:
             check_name(key)
-        case ["end", _, answer]:
+        case ["end", _, answer] | ["end", _, answer, _]:
             if answer is not None:
                 check_value(answer)
-        case ["fail" | "lost", _]:
+        case ["fail" | "lost", _] | ["fail" | "lost", _, _]:
             pass
         case _:
             raise ValueError(f"{_shown(event)} is no event")
@@ -144,7 +154,7 @@ class Progress:
                 if self.has_begun:
                     return f"the start of {_shown(key)} comes after a begin"
                 return f"the key {_shown(key)} has a start already" if key in self.started else ""
-            case ["begin", client, _]:
+            case ["begin", client, *_]:
                 return f"the client {_shown(client)} has a call pending" if client in self.pending else ""
         word = self.pending.get(event[1])
         if word is None:
@@ -158,7 +168,7 @@ class Progress:
         match event:
             case ["start", key, value]:
                 self.started[key] = value
-            case ["begin", client, call]:
+            case ["begin", client, call, *_]:
                 self.pending[client], self.has_begun = call[0], True
             case [_, client, *_]:
                 del self.pending[client]

@@ -6,8 +6,11 @@
             ..
 
 A test that passed by itself fails with the explanation where a criterion of its marker is no yes. Without a marker the criteria are those
-of the ini option `causal_criteria`, or cc. Where a test fails for any reason, its log is copied to the folder of the ini option
-`causal_logs`, or causal-logs, and the report names the copy.
+of the ini option `causal_criteria`, or cc. It fails too where fewer reads were answered than `at_least_reads` of the marker says, or else
+the ini option `causal_at_least_reads`, or else 1.
+
+Where a test fails for any reason, as by `assert_met` in its body, its log is copied to the folder of the ini option `causal_logs`, or
+causal-logs, with the page of `explain --html` beside it, and the report names both.
 """
 
 from __future__ import annotations
@@ -22,7 +25,7 @@ from typing import Any, TypeVar
 import pytest
 
 from causal_judge.recorder import Recorder
-from causal_judge.verdicts import assert_met, checked_criteria
+from causal_judge.verdicts import assert_met, checked_criteria, checked_reads, save_page
 
 FIXTURE = "causal_recorder"
 LONGEST_NAME = 100
@@ -35,17 +38,19 @@ OUTERMOST: Callable[[Hook], Hook] = pytest.hookimpl(hookwrapper=True, tryfirst=T
 def pytest_addoption(parser: pytest.Parser) -> None:
     """Adds the ini options."""
     parser.addini("causal_criteria", "the criteria that the log of causal_recorder has to meet", type="args", default=["cc"])
+    parser.addini("causal_at_least_reads", "how many reads of causal_recorder have to be answered", default="1")
     parser.addini("causal_logs", "the folder for the logs of tests that failed, from the root of the tests", default="causal-logs")
 
 
 def pytest_configure(config: pytest.Config) -> None:
-    """Makes the marker known, and refuses criteria that there are not."""
-    about = "the criteria that the log of causal_recorder has to meet; all three if none is named"
-    config.addinivalue_line("markers", f"causal(*criteria): {about}")
-    try:
-        checked_criteria(tuple(config.getini("causal_criteria")))
-    except ValueError as error:
-        raise pytest.UsageError(f"causal_criteria: {error}") from None
+    """Makes the marker known, and refuses criteria and numbers of reads that there are not."""
+    about = "the criteria that the log of causal_recorder has to meet, all three if none is named; and how many reads have to be answered"
+    config.addinivalue_line("markers", f"causal(*criteria, at_least_reads=1): {about}")
+    for name, check in (("causal_criteria", _criteria_of), ("causal_at_least_reads", _reads_of)):
+        try:
+            check(config)
+        except ValueError as error:
+            raise pytest.UsageError(f"{name}: {error}") from None
 
 
 @pytest.fixture
@@ -72,12 +77,13 @@ def pytest_runtest_call(item: pytest.Item) -> Generator[None, Any, None]:
 
 @WRAPPER
 def pytest_runtest_makereport(item: pytest.Item) -> Generator[None, Any, None]:
-    """Keeps the log of a test that failed, at whatever stage, and names the copy in the report."""
+    """Keeps the log of a test that failed, at whatever stage, with its page, and names both in the report."""
     outcome = yield
     report = outcome.get_result()
     recorder = _recorder_of(item)
     if recorder is not None and report.failed and recorder.path.is_file():
-        report.sections.append(("causal log", f"kept as {_keep(item, recorder.path)}"))
+        kept = _keep(item, recorder.path)
+        report.sections.append(("causal log", f"kept as {kept}\n{save_page(kept, kept.with_suffix('.html'))}"))
 
 
 def _recorder_of(item: pytest.Item) -> Recorder | None:
@@ -86,12 +92,39 @@ def _recorder_of(item: pytest.Item) -> Recorder | None:
     return found if isinstance(found, Recorder) else None
 
 
-def _judge(item: pytest.Item, recorder: Recorder) -> None:
-    """Fails where a criterion of the test is not met, or where nothing is judged."""
+def _criteria_of(config: pytest.Config) -> tuple[str, ...]:
+    """The criteria of the ini file. ValueError names one there is not."""
+    criteria: list[str] = config.getini("causal_criteria")
+    return checked_criteria(tuple(criteria))
+
+
+def _reads_of(config: pytest.Config) -> int:
+    """How many reads have to be answered, by the ini file. ValueError where that is no whole number."""
+    written: str = config.getini("causal_at_least_reads")
+    if not written.isascii() or not written.isdecimal():
+        raise ValueError(f"it is a whole number from 0, not {written!r}")
+    return int(written)
+
+
+def _asked(item: pytest.Item) -> tuple[tuple[str, ...], int]:
+    """The criteria of a test, and how many reads have to be answered: those of its marker, or else of the ini file.
+
+    `causal()` asks for all criteria. ValueError names what the marker does not take.
+    """
     marker = item.get_closest_marker("causal")
-    criteria = marker.args if marker else item.config.getini("causal_criteria")
+    named = dict(marker.kwargs) if marker else {}
+    reads = checked_reads(named.pop("at_least_reads", _reads_of(item.config)))
+    if named:
+        raise ValueError(f"the marker causal takes criteria and at_least_reads, not {', '.join(named)}")
+    has_criteria = marker is not None and (marker.args or not marker.kwargs)
+    return (checked_criteria(marker.args) if marker and has_criteria else _criteria_of(item.config)), reads
+
+
+def _judge(item: pytest.Item, recorder: Recorder) -> None:
+    """Fails where a criterion of the test is not met, where too few reads were answered, or where nothing is judged."""
     try:
-        assert_met(recorder, *criteria)
+        criteria, reads = _asked(item)
+        assert_met(recorder, *criteria, at_least_reads=reads)
     except AssertionError as unmet:
         raise pytest.fail.Exception(str(unmet), pytrace=False) from None
     except (OSError, RuntimeError, ValueError) as fault:

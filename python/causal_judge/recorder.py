@@ -16,9 +16,9 @@ import threading
 from collections.abc import Mapping
 from types import TracebackType
 
-from causal_judge.calls import Call, Fails, check_fails
+from causal_judge.calls import Answers, Call, Fails, Rules
 from causal_judge.clients import AsyncClient, Client
-from causal_judge.events import Event, LogError, Name, Progress, Value, check_event, is_same, line_of
+from causal_judge.events import Event, LogError, Name, Progress, Value, check_event, is_same, line_of, next_name
 from causal_judge.log_file import LogFile
 
 NUMBERED = re.compile(r"(.*)\.([1-9][0-9]{0,17})", re.DOTALL)
@@ -34,19 +34,29 @@ class Recorder:
     that it had no effect for certain: a class, several, or a function of the exception. Every other one means that the call is lost, so
     that it may take effect later, or never.
 
+    `answers` is for a store that answers in another type than was written, as "1" for 1: a function that gives the written value for what a
+    read returned. It is not asked about None, which is nothing.
+
     Raises BlockingIOError where another recorder writes the log, LogError where the log has a bad line, ValueError where the path is no
     ordinary file, and OSError as `open` does.
     """
 
-    def __init__(self, path: str | os.PathLike[str], *, start: Mapping[Name, Value] | None = None, fails: Fails = ()) -> None:
-        check_fails(fails)
+    def __init__(
+        self,
+        path: str | os.PathLike[str],
+        *,
+        start: Mapping[Name, Value] | None = None,
+        fails: Fails = (),
+        answers: Answers | None = None,
+    ) -> None:
+        self._rules = Rules(fails).but(None, answers)
         self.path = pathlib.Path(path)
-        self._fails = fails
         self._lock = threading.Lock()
         self._process = os.getpid()
         self._progress = Progress()
         self._calls: dict[Name, Call] = {}
         self._counts: dict[str, int] = {}
+        self._names: set[Name] = set()
         self._file = LogFile(self.path)
         self._is_open = True
         try:
@@ -73,13 +83,20 @@ class Recorder:
             elif not is_same(self._progress.started[key], value):
                 raise ValueError(f"the key {key!r} starts with {self._progress.started[key]!r} already")
 
-    def client(self, name: Name, *, fails: Fails | None = None) -> Client:
-        """A client whose calls are functions. Two of one name are one client, with one call at a time. `fails` is as for the recorder."""
-        return Client(self, name, self._fails if fails is None else fails)
+    def client(self, name: Name, *, fails: Fails | None = None, answers: Answers | None = None) -> Client:
+        """A client whose calls are functions. Two of one name are one client, with one call at a time.
 
-    def async_client(self, name: Name, *, fails: Fails | None = None) -> AsyncClient:
-        """A client whose calls are awaited. Two of one name are one client, with one call at a time. `fails` is as for the recorder."""
-        return AsyncClient(self, name, self._fails if fails is None else fails)
+        `fails` and `answers` are as for the recorder, whose rules the client has unless others are given.
+        """
+        client = Client(self, name, self._rules.but(fails, answers))
+        self._note_name(name)
+        return client
+
+    def async_client(self, name: Name, *, fails: Fails | None = None, answers: Answers | None = None) -> AsyncClient:
+        """A client whose calls are awaited. Two of one name are one client, with one call at a time. Rules are as for `client`."""
+        client = AsyncClient(self, name, self._rules.but(fails, answers))
+        self._note_name(name)
+        return client
 
     def close(self) -> None:
         """Closes the log, which another recorder may then go on with. A call that is pending stays so: whether it took effect is open.
@@ -105,6 +122,14 @@ class Recorder:
         with self._lock:
             self._counts[prefix] = self._counts.get(prefix, 0) + 1
             return f"{prefix}.{self._counts[prefix]}"
+
+    def new_name(self, name: Name) -> str:
+        """For clients: a name that no client of the log has, with this one in it: "alice#2" for "alice"."""
+        with self._lock:
+            self._check_usable()
+            found = next_name(name, self._names)
+            self._names.add(found)
+            return found
 
     def begin(self, call: Call, event: Event) -> None:
         """For Call: records that it begins. RuntimeError says that its client has another one pending; then nothing is recorded."""
@@ -141,6 +166,8 @@ class Recorder:
                 raise LogError(number, fault, self.path)
             self._progress.take(event)
             self._note_value(event)
+            if event[0] == "begin":
+                self._names.add(event[1])
         for name in list(self._progress.pending):
             self._append_lost(name)
 
@@ -150,6 +177,11 @@ class Recorder:
         found = NUMBERED.fullmatch(value) if isinstance(value, str) else None
         if found:
             self._counts[found[1]] = max(int(found[2]), self._counts.get(found[1], 0))
+
+    def _note_name(self, name: Name) -> None:
+        """Takes note of the name of a client, so that new_name does not give it."""
+        with self._lock:
+            self._names.add(name)
 
     def _append_lost(self, name: Name) -> None:
         event: Event = ["lost", name]

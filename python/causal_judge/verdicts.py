@@ -2,14 +2,16 @@
 
 from __future__ import annotations
 
+import contextlib
 import os
 import pathlib
 import textwrap
 from collections.abc import Mapping
 from dataclasses import dataclass, field
 from functools import cached_property
-from typing import TypeAlias
+from typing import Literal, TypeAlias
 
+from causal_judge.operations import answered_reads
 from causal_judge.program import find_program, run_program
 from causal_judge.recorder import Recorder
 
@@ -17,8 +19,10 @@ CRITERIA = ("cc", "cm", "ccv")
 AS_FOR = "  as for "
 JUDGE = ["judge", "--long", "--events"]
 EXPLAIN = ["explain", "--long", "--events"]
+FORMS: dict[str, list[str]] = {"words": [], "json": ["--json"], "svg": ["--svg"], "html": ["--html"]}
 
 Log: TypeAlias = str | os.PathLike[str] | Recorder
+Form: TypeAlias = Literal["words", "json", "svg", "html"]
 
 
 @dataclass(frozen=True)
@@ -89,13 +93,20 @@ def checked_criteria(criteria: tuple[str, ...]) -> tuple[str, ...]:
     return criteria or CRITERIA
 
 
+def checked_reads(count: object) -> int:
+    """This number of reads. ValueError where it is none."""
+    if isinstance(count, bool) or not isinstance(count, int) or count < 0:
+        raise ValueError(f"at_least_reads is a whole number from 0, not {count!r}")
+    return count
+
+
 def judge(log: Log, *, program: str | os.PathLike[str] | None = None, timeout: float | None = None) -> Verdict:
     """Has a log judged: one of a path, or of a recorder, which may still be open.
 
     Raises ProgramMissing, Refused with what is wrong in the log, TimeoutError after so many seconds, RuntimeError where the program fails
     otherwise, and OSError.
     """
-    path, found = _path_of(log), find_program(program)
+    path, found = path_of(log), find_program(program)
     said = run_program(found, JUDGE, path, timeout)
     lines = {line.criterion: line for line in map(_line_of, said.splitlines())}
     if set(lines) != set(CRITERIA):
@@ -103,34 +114,82 @@ def judge(log: Log, *, program: str | os.PathLike[str] | None = None, timeout: f
     return Verdict(lines["cc"], lines["cm"], lines["ccv"], path, found, timeout)
 
 
-def assert_met(log: Log, *criteria: str, program: str | os.PathLike[str] | None = None, timeout: float | None = None) -> Verdict:
+def assert_met(
+    log: Log,
+    *criteria: str,
+    at_least_reads: int = 1,
+    page: str | os.PathLike[str] | None = None,
+    program: str | os.PathLike[str] | None = None,
+    timeout: float | None = None,
+) -> Verdict:
     """Has a log judged, and raises AssertionError with the explanation where one of these criteria is no yes.
 
-    Where no criterion is named, all three have to be met. It raises besides what `judge` raises, and ValueError for a criterion there is
-    not.
+    Where no criterion is named, all three have to be met. Where fewer reads than `at_least_reads` were answered, it raises AssertionError
+    too: a run that reads nothing meets them all. Before it raises, it writes the page of `explain --html` to `page`, where that is given,
+    and names it in the message. It raises besides what `judge` raises, and ValueError for a criterion or a number of reads there is not.
     """
     __tracebackhide__ = True
     checked_criteria(criteria)
+    checked_reads(at_least_reads)
     verdict = judge(log, program=program, timeout=timeout)
-    unmet = verdict.unmet(*criteria)
-    if unmet:
-        raise AssertionError(f"{verdict.explanation}{verdict.log} {_lack_of(unmet)}.")
+    lack = _lack_of(verdict, criteria) or _lack_of_reads(verdict, at_least_reads)
+    if lack:
+        raise AssertionError(lack if page is None else f"{lack}\n{save_page(log, page, program=program, timeout=timeout)}")
     return verdict
 
 
-def explain(log: Log, *, program: str | os.PathLike[str] | None = None, timeout: float | None = None) -> str:
-    """What `explain --long --events` says of a log, as a text. It raises what `judge` raises."""
-    return run_program(find_program(program), EXPLAIN, _path_of(log), timeout)
+def explain(log: Log, form: Form = "words", *, program: str | os.PathLike[str] | None = None, timeout: float | None = None) -> str:
+    """What `explain --long --events` says of a log, as a text: in words, as JSON, as a picture in SVG, or as a page in HTML.
+
+    It raises what `judge` raises, and ValueError for a form there is not.
+    """
+    if form not in FORMS:
+        raise ValueError(f"there is no form {form!r}: there are {', '.join(FORMS)}")
+    return run_program(find_program(program), [*EXPLAIN, *FORMS[form]], path_of(log), timeout)
 
 
-def _lack_of(unmet: tuple[Line, ...]) -> str:
+def save_page(
+    log: Log, page: str | os.PathLike[str], *, program: str | os.PathLike[str] | None = None, timeout: float | None = None
+) -> str:
+    """Writes the page of a log, and says where it is; or says why there is none. A page that was there before is gone in any case."""
+    place = pathlib.Path(page)
+    part = place.with_name(f"{place.name}.part")
+    try:
+        place.unlink(missing_ok=True)
+        place.parent.mkdir(parents=True, exist_ok=True)
+        part.write_text(explain(log, "html", program=program, timeout=timeout), encoding="utf-8")
+        part.replace(place)
+    except (OSError, RuntimeError, ValueError) as fault:
+        with contextlib.suppress(OSError):
+            part.unlink(missing_ok=True)
+        return f"There is no page {place} of it: {fault}"
+    return f"The page {place} shows it."
+
+
+def _lack_of(verdict: Verdict, criteria: tuple[str, ...]) -> str:
+    """Says what a log does not meet, after its explanation. An empty text where it meets all of these criteria."""
+    unmet = verdict.unmet(*criteria)
+    return f"{verdict.explanation}{verdict.log} {_unmet_words(unmet)}." if unmet else ""
+
+
+def _lack_of_reads(verdict: Verdict, at_least: int) -> str:
+    """Says how many reads of a log were answered, where these are too few; else an empty text."""
+    count = answered_reads(verdict.log, at_least)
+    if count >= at_least:
+        return ""
+    said = f"{count or 'no'} {'read was' if count < 2 else 'reads were'} answered"
+    return f"{verdict}\n{verdict.log}: {said}, and at_least_reads is {at_least}: where little is read, a yes says little of the store."
+
+
+def _unmet_words(unmet: tuple[Line, ...]) -> str:
     """Says what a log does not meet, and what it is not known to meet, by its lines that are no yes."""
     answers = {answer: ", ".join(line.criterion for line in unmet if line.answer == answer) for answer in ("no", "unknown")}
     lacks = [f"does not meet {answers['no']}"] if answers["no"] else []
     return " and ".join([*lacks, f"is not known to meet {answers['unknown']}"] if answers["unknown"] else lacks)
 
 
-def _path_of(log: Log) -> pathlib.Path:
+def path_of(log: Log) -> pathlib.Path:
+    """The path of a log."""
     return log.path if isinstance(log, Recorder) else pathlib.Path(log)
 
 

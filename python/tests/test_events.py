@@ -45,9 +45,20 @@ class Forms(unittest.TestCase):
             check_event(["begin", key, ["d", key]])
         check_event(["end", "a", None])
 
+    def test_notes(self):
+        """All but a start may have one element more, whatever it is. Their calls have none more."""
+        for note in (None, 0, "n1", 1.5, [], {"server": "n1", "at": [17.25]}, "ok"):
+            begins = ["begin", "a", ["w", "k", 1]], ["begin", "a", ["r", "k"]], ["begin", "a", ["d", "k"]]
+            for event in (*begins, ["end", "a", 1], ["fail", "a"]):
+                check_event([*event, note])
+                for wrong in ([*event, note, note], ["begin", "a", ["r", "k", note]], ["start", "k", 1, note]):
+                    with self.subTest(event=wrong), self.assertRaises((TypeError, ValueError)):
+                        check_event(wrong)
+            check_event(["lost", "a", note])
+
     def test_no_events(self):
         lists = ([], ["start", "k"], ["start", "k", None], ["begin", "a"], ["begin", "a", ["w", "k"]], ["begin", "a", ["r", "k", 1]])
-        more = (["begin", "a", ["x", "k"]], ["end", "a"], ["end", "a", 1.5], ["end", "a", []], ["fail", "a", "ok"], ["lost"], ["stop", "a"])
+        more = (["begin", "a", ["x", "k"]], ["end", "a"], ["end", "a", 1.5], ["end", "a", []], ["fail", "a", 1, 2], ["lost"], ["stop", "a"])
         names = (["begin", True, ["r", "k"]], ["end", 1.0, "ok"], ["fail", None], ["lost", -1], ["begin", "a", ["d", None]])
         for event in (*lists, *more, *names, ["start", 1.5, 1], "begin", None, 5, {"begin": "a"}):
             with self.subTest(event=event), self.assertRaises((TypeError, ValueError)):

@@ -27,7 +27,7 @@ class Operations(ImporterCase):
 
     def test_answered(self):
         text = operation(0, "ok", "write", 1) + operation(0, "ok", "read", "nil", 1) + operation(1, "ok", "cas", "[1 2]")
-        self.assert_events(text, write(0, K, 1), read(0, K, 1), read(1, K, 1), write(1, K, 2))
+        self.assert_events(text, write(0, K, 1), read(0, K, 1), write(1, K, 2))
 
     def test_a_read_of_nil_found_nothing(self):
         self.assert_events(operation(3, "ok", "read", "nil"), read(3, K, None))
@@ -35,12 +35,13 @@ class Operations(ImporterCase):
 
     def test_a_write_of_nil_is_a_delete(self):
         self.assert_events(operation(0, "ok", "write", "nil"), write(0, K, None))
-        self.assert_events(operation(0, "ok", "cas", "[1 nil]"), read(0, K, 1), write(0, K, None))
-        self.assert_events(operation(0, "ok", "cas", "[nil 1]"), read(0, K, None), write(0, K, 1))
+        self.assert_events(operation(0, "ok", "cas", "[1 nil]"), write(0, K, None))
+        self.assert_events(operation(0, "ok", "cas", "[nil 1]"), write(0, K, 1))
 
-    def test_what_failed_is_left_out(self):
+    def test_what_failed(self):
         text = operation(0, "fail", "write", 1) + operation(0, "fail", "read", "nil") * 2 + operation(0, "fail", "cas", "[1 2]")
-        self.assert_events(text, left_out={"a failed write": 1, "a failed read": 2, "a cas that was refused": 1})
+        calls = ["w", K, 1], ["r", K], ["r", K], ["w", K, 2]
+        self.assert_events(text, *([["begin", 0, call], ["fail", 0]] for call in calls))
 
     def test_what_crashed_is_lost(self):
         for function, value, call in (
@@ -53,10 +54,19 @@ class Operations(ImporterCase):
                 self.assert_events(operation(0, "info", function, value), call)
                 self.assert_events(operation(0, "info", function, value, ":timed-out"), call)
 
+    def test_a_process_that_goes_on_after_a_crash_is_another_client(self):
+        """Jepsen gives its thread another process number. Where a history has the old one, it gets another name."""
+        text = operation(0, "ok", "write", 1) + operation(0, "info", "read", "nil") + operation(0, "ok", "write", 2)
+        text += operation(1, "fail", "write", 3) + operation(1, "ok", "write", 4) + operation(0, "info", "cas", "[2 5]")
+        text += entry(0, "invoke", "read", "nil")
+        failed = [["begin", 1, ["w", K, 3]], ["fail", 1]]
+        wanted = write(0, K, 1), read(0, K), write("0#2", K, 2), failed, write(1, K, 4), write("0#2", K, 5, True), read("0#3", K)[:1]
+        self.assert_events(text, *wanted)
+
     def test_what_has_no_completion_is_pending(self):
         text = entry(2, "invoke", "cas", "[1 2]") + operation(0, "ok", "write", 1) + entry(1, "invoke", "read", "nil")
         text += entry(0, "invoke", "write", 3)
-        self.assert_events(text, write(0, K, 1), write(2, K, 2)[:1], read(1, K)[:1], write(0, K, 3)[:1])
+        self.assert_events(text, write(2, K, 2)[:1], write(0, K, 1), read(1, K)[:1], write(0, K, 3)[:1])
 
     def test_the_nemesis_is_left_out(self):
         text = operation(":nemesis", "info", "kill", "#{\"n1\"}") + "{:process :nemesis}" + operation(0, "ok", "write", 1)
@@ -67,8 +77,11 @@ class Operations(ImporterCase):
         self.assert_events(entry(0, "invoke", "write", 1, more) + entry(0, "info", "write", 1, more), write(0, K, 1, True))
 
     def test_operations_overlap(self):
-        text = entry(0, "invoke", "write", 1) + entry(1, "invoke", "read", "nil") + entry(1, "ok", "read", 1) + entry(0, "ok", "write", 1)
-        self.assert_events(text, read(1, K, 1), write(0, K, 1))
+        """Each begins at its invocation, so what a cas wrote is read on a later line than its begin."""
+        for function, value in (("write", "1"), ("cas", "[0 1]")):
+            text = entry(0, "invoke", function, value) + operation(1, "ok", "read", "nil", 1) + entry(0, "ok", function, value)
+            begun, ended = write(0, K, 1)
+            self.assert_events(text, [begun], read(1, K, 1), [ended])
 
     def test_values(self):
         for spelling, value in (
@@ -117,7 +130,7 @@ class Keys(ImporterCase):
     def test_tuples(self):
         text = operation(0, "ok", "write", "[7 1]") + operation(0, "ok", "read", "[7 nil]", "[7 1]")
         text += operation(1, "ok", "cas", '["k" [nil 2]]')
-        self.assert_events(text, write(0, 7, 1), read(0, 7, 1), read(1, "k", None), write(1, "k", 2))
+        self.assert_events(text, write(0, 7, 1), read(0, 7, 1), write(1, "k", 2))
 
     def test_the_first_operation_decides(self):
         for text in (
@@ -220,11 +233,19 @@ class Verdicts(ImporterCase):
         text = operation(0, "ok", "write", 1) + operation(1, "info", "cas", "[1 2]") + operation(6, "ok", "read", "nil", 2)
         self.assert_lines(text, "cc yes; cm yes; ccv yes")
 
-    def test_a_cas_read_its_old_value(self):
-        """Process 1 saw 2 replace 1, so its cas of 1 may not succeed."""
+    def test_a_history_that_ends_in_a_cas(self):
+        """What it wrote is read before it is answered, also where it never is."""
+        text = operation(0, "ok", "write", 1) + entry(1, "invoke", "cas", "[1 2]") + operation(0, "ok", "read", "nil", 2)
+        for last in ("", entry(1, "ok", "cas", "[1 2]"), entry(1, "info", "cas", "[1 2]")):
+            self.assert_lines(text + last, "cc yes; cm yes; ccv yes")
+        self.assert_lines(text + entry(1, "fail", "cas", "[1 2]"), "cc no ThinAirRead; cm no ThinAirRead; ccv no ThinAirRead")
+
+    def test_what_a_cas_compared_is_not_asked(self):
+        """Process 1 saw 2 replace 1. That its cas of 1 succeeded is no fault by a log, which has a write alone."""
         text = operation(0, "ok", "write", 1) + operation(0, "ok", "write", 2) + operation(1, "ok", "read", "nil", 2)
-        self.assert_lines(text + operation(1, "ok", "cas", "[1 3]"), "cc no WriteCORead; cm no WriteCORead; ccv no WriteCORead")
-        self.assert_lines(text + operation(1, "fail", "cas", "[1 3]"), "cc yes; cm yes; ccv yes")
+        text += operation(1, "ok", "cas", "[1 3]")
+        self.assert_lines(text, "cc yes; cm yes; ccv yes")
+        self.assert_lines(text + operation(1, "ok", "read", "nil", 1), "cc no WriteCORead; cm no WriteCORead; ccv no WriteCORead")
 
     def test_a_lost_write(self):
         text = operation(0, "ok", "write", "[1 1]") + operation(0, "ok", "read", "[1 nil]", "[1 nil]")

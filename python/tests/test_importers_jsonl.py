@@ -41,7 +41,8 @@ class Calls(ImporterCase):
         self.assert_events(text, left_out={"a failed read": 2, "a failed write": 2, "a failed delete": 1})
 
     def test_what_got_no_answer_is_lost(self):
-        wanted = (write("a", "k", 5, True), read("a", "k"), write("a", "k", None, True))
+        """Its client is a new one from then on."""
+        wanted = (write("a", "k", 5, True), read("a#2", "k"), write("a#3", "k", None, True))
         for more in ({}, {"end": None}, {"ok": None}, {"end": None, "ok": None}):
             with self.subTest(more=more):
                 lines = [unanswered("a", word, "k", start, **more, value=5) for start, word in enumerate("wrd")]
@@ -99,11 +100,17 @@ class Order(ImporterCase):
 
     def test_calls_without_an_end(self):
         lost = unanswered("a", "w", "k", 5, value=1)
-        self.assert_events(call("a", "w", "k", 6, 7, value=2) + lost, write("a", "k", 1, True), write("a", "k", 2))
-        self.assert_events(call("a", "w", "k", 5, 7, value=2) + lost, write("a", "k", 1, True), write("a", "k", 2))
+        self.assert_events(call("a", "w", "k", 6, 7, value=2) + lost, write("a", "k", 1, True), write("a#2", "k", 2))
+        self.assert_events(call("a", "w", "k", 5, 7, value=2) + lost, write("a", "k", 1, True), write("a#2", "k", 2))
         self.assert_events(lost + call("a", "w", "k", 4, 5, value=2), write("a", "k", 2), write("a", "k", 1, True))
         self.assert_refused(lost + call("a", "w", "k", 4, 6, value=2), 2, "overlap")
         self.assert_refused(call("a", "w", "k", 5, 9, None, value=1) + call("a", "w", "k", 8, 10, value=2), 2, "overlap")
+
+    def test_new_clients_get_names_that_no_other_has(self):
+        lines = [unanswered(client, "r", "k", 5) + call(client, "w", "k", 6, 7, value=f"of {client}") for client in ("a", 7, "a#2", "7")]
+        events = [event for event in imported("jsonl", "".join(lines))[0] if event[0] == "begin"]
+        wanted = (("a", "a#2"), (7, "7#2"), ("a#3", "a#4"), ("7", "7#3"))
+        self.assertEqual([event[1] for event in events], [name for pair in wanted for name in pair])
 
     def test_what_failed_may_overlap(self):
         text = call("a", "w", "k", 0, 9, False) + call("a", "w", "k", 5, 6, value=1)

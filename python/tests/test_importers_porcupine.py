@@ -51,7 +51,13 @@ class Events(ImporterCase):
     def test_no_return(self):
         lines = put(0, 0, "k", 1).splitlines(keepends=True)
         self.assert_events(lines[0], write(0, "k", 1)[:1])
-        self.assert_events(lines[0] + get(0, 1, "k", 1), write(0, "k", 1, True), read(0, "k", 1))
+        self.assert_events(lines[0] + get(0, 1, "k", 1), write(0, "k", 1, True), read("0#2", "k", 1))
+
+    def test_a_client_that_goes_on_is_a_new_one(self):
+        begun = [event(client, 0, number, {"op": "get", "key": "k"}) for number, client in enumerate((0, 0, "0#2", "0#2", 0))]
+        text = begun[0] + begun[2] + begun[1] + event("0#2", 1, 2, {"value": 1}) + begun[4] + begun[3]
+        wanted = (read(0, "k")[:1], read("0#2", "k")[:1], read(0, "k")[1:], read("0#3", "k")[:1], [["end", "0#2", 1]])
+        self.assert_events(text, *wanted, read("0#3", "k")[1:], read("0#4", "k")[:1], read("0#2", "k")[:1])
 
     def test_other_fields_are_passed_over(self):
         line = '{"ClientId":0,"Kind":0,"Value":{"op":"get","key":"k"},"Id":0,"Time":12.5,"Metadata":{"a":[]}}'

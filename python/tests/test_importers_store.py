@@ -1,6 +1,7 @@
 """A small replicated store and its clients, for the tests of importers: a seed gives a run, whose calls are told as they begin and end.
 
 A request takes effect between its begin and its end. Some are refused. Some get no answer: these take effect in time, or late, or never.
+After such a one the client connects to any replica, which knows nothing of what the client has seen.
 """
 
 import itertools
@@ -33,6 +34,7 @@ class Call:
     """
 
     client: int
+    at: int
     word: str
     key: object
     value: object
@@ -95,7 +97,7 @@ class Store:
 
     def answer(self, call):
         """The call takes effect at its client's replica: its outcome."""
-        at = call.client % len(self.replicas)
+        at = call.at
         held = self.replicas[at].read(call.key)
         if call.word == "r":
             call.found = held
@@ -114,6 +116,7 @@ class Run:
         self.store = Store(self.kind, self.rng, has_fault)
         self.words, self.told, self.late, self.now = words, [], [], 0
         self.numbers = {client: itertools.count(1) for client in range(CLIENTS)}
+        self.places = {client: client % self.kind.replicas for client in range(CLIENTS)}
         self.steps = {client: self.client(client) for client in range(CLIENTS)}
         while self.steps:
             self.step()
@@ -143,6 +146,8 @@ class Run:
                 return
             call.end, call.outcome = self.now, outcome
             self.told.append(("end", call))
+            if outcome == "lost":
+                self.places[client] = self.rng.randrange(self.kind.replicas)
             yield True
 
     def new_call(self, client):
@@ -151,8 +156,9 @@ class Run:
         value = f"v{client}.{number}" if number % 2 else 1_000 * client + number
         if word == "d" or (word == "w" and self.rng.random() < 0.1):
             value = None
-        old = self.store.replicas[client % self.kind.replicas].read(key) if self.rng.random() < 0.8 else "no such value"
-        return Call(client, word, key, value, old, self.now)
+        at = self.places[client]
+        old = self.store.replicas[at].read(key) if self.rng.random() < 0.8 else "no such value"
+        return Call(client, at, word, key, value, old, self.now)
 
     def outcome_of(self, call):
         """What becomes of a call."""

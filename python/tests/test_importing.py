@@ -1,12 +1,13 @@
 """The command that imports: what it writes of a history, and what is left of one that is refused."""
 
+import re
 import subprocess
 import sys
 import unittest
 
 from causal_judge import Refused, judge
-from causal_judge.importers import FORMATS
-from support import FolderCase, needs_program
+from causal_judge.importers import ABOUT, FORMATS
+from support import PACKAGE, FolderCase, needs_program, run_python
 
 WHOLE = "w(x,1) r(y,2)\nw(y,2) r(x,1)\n"
 BROKEN = "w(x,1) r(y,2)\nw(y,2) r(x\n"
@@ -39,6 +40,19 @@ class Importing(FolderCase):
         done = subprocess.run(words, input=b"w(x,1)\n\xff\n", capture_output=True, check=False)
         self.assertEqual(done.returncode, 1)
         self.assertEqual(done.stdout.splitlines()[-1], b'"the history was refused, and this is a part of it"')
+
+    def test_help(self):
+        """It names each format, what it is and where it comes from, as README.md does, and fits a terminal of 80 columns."""
+        self.assertEqual(list(ABOUT), list(FORMATS))
+        helps = (run_python("-m", "causal_judge", *words, "--help", COLUMNS="80") for words in ((), ("merge",), ("import",)))
+        texts = [done.stdout.decode() for done in helps]
+        page = (PACKAGE / "README.md").read_text(encoding="utf-8").replace("`", "")
+        for name, (what, source) in ABOUT.items():
+            self.assertRegex(texts[2], rf"\n  {name} +{re.escape(what)}\n +{re.escape(source)}\n")
+            self.assertIn(name, texts[0])
+            self.assertIn(f"| {name} | {what} | {source} |", page)
+        for text in texts:
+            self.assertLessEqual(max(map(len, text.splitlines())), 80, text)
 
     def test_a_format_that_is_unknown_names_those_there_are(self):
         done = imported(WHOLE, self.log, "csv")

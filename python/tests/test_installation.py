@@ -100,7 +100,7 @@ class Installed(unittest.TestCase):
     @unittest.skipUnless(is_module_there("pytest"), "skipped: apt-get install python3-pytest")
     def test_plugin_is_found(self):
         """pytest finds the plugin by itself."""
-        self.assertIn(b"@pytest.mark.causal(*criteria)", self.run_installed("-m", "pytest", "--markers").stdout)
+        self.assertIn(b"@pytest.mark.causal(*criteria, at_least_reads=1)", self.run_installed("-m", "pytest", "--markers").stdout)
 
     def test_commands(self):
         (self.folder / "one.jsonl").write_text('["begin","a",["r","k"]]\n')

@@ -1,9 +1,10 @@
-"""Tests the plugin of pytest by real runs of pytest: what passes, what fails and how that reads, and which logs are kept."""
+"""Tests the plugin of pytest by real runs of pytest: what passes, what fails and how that reads, and which logs and pages are kept."""
 
 import re
 import textwrap
 import unittest
 
+from causal_judge import explain
 from support import DEBIAN_PYTHON, FolderCase, needs_modules, needs_program, run_python
 
 CALLS = """
@@ -18,6 +19,10 @@ def lost_write(recorder):
     with recorder.client("alice") as alice:
         alice.write("k", "v", lambda: None)
         alice.read("k", lambda: None)
+
+def unread(recorder):
+    with recorder.client("alice") as alice:
+        alice.write("k", "v", lambda: None)
 
 def diverged(recorder):
     with recorder.client("alice") as alice, recorder.client("bob") as bob:
@@ -39,7 +44,7 @@ class Plugin(FolderCase):
         done = run_python("-m", "pytest", *options, *words, python=DEBIAN_PYTHON, folder=self.folder, **more)
         text = done.stdout.decode() + done.stderr.decode()
         outcomes = {what.rstrip("s"): int(number) for number, what in OUTCOMES.findall(text.splitlines()[-1])}
-        return outcomes, text, sorted(path.name for path in self.folder.glob("causal-logs/*"))
+        return outcomes, text, sorted(path.name for path in self.folder.glob("causal-logs/*.jsonl"))
 
     @needs_program
     def test_outcomes(self):
@@ -74,8 +79,87 @@ class Plugin(FolderCase):
         self.assertNotIn("During handling", text)
         self.assertEqual([name.rpartition("-")[0] for name in kept], ["test_store.py-test_lost", "test_store.py-test_own_fault"])
         for name in kept:
-            self.assertIn(f"kept as {self.folder / 'causal-logs' / name}", text)
-            self.assertEqual((self.folder / "causal-logs" / name).read_bytes().count(b"\n"), 4)
+            log = self.folder / "causal-logs" / name
+            self.assertIn(f"kept as {log}", text)
+            self.assertEqual(log.read_bytes().count(b"\n"), 4)
+            self.assertIn(f"The page {log.with_suffix('.html')} shows it.", text)
+            self.assertEqual(log.with_suffix(".html").read_text(encoding="utf-8"), explain(log, "html"))
+        self.assertEqual(len(list((self.folder / "causal-logs").iterdir())), 4)
+
+    @needs_program
+    def test_assertion_in_a_test(self):
+        """An assert_met that fails keeps the log and its page, as a failure of the fixture does."""
+        outcomes, text, kept = self.run_pytest(
+            """
+            from causal_judge import assert_met
+
+            def test_lost(causal_recorder):
+                lost_write(causal_recorder)
+                assert_met(causal_recorder, "ccv")
+            """
+        )
+        self.assertEqual((outcomes, len(kept)), ({"failed": 1}, 1), text)
+        page = (self.folder / "causal-logs" / kept[0]).with_suffix(".html")
+        self.assertIn("does not meet ccv.", text)
+        self.assertIn(f"The page {page} shows it.", text)
+        self.assertTrue(page.read_bytes().startswith(b"<!DOCTYPE html>"))
+
+    @needs_program
+    def test_reads(self):
+        """By itself one read has to be answered; the ini file or a marker may ask for another number."""
+        body = """
+            def test_unread(causal_recorder):
+                unread(causal_recorder)
+
+            def test_nothing(causal_recorder):
+                pass
+
+            def test_good(causal_recorder):
+                good(causal_recorder)
+
+            @pytest.mark.causal(at_least_reads=0)
+            def test_none_asked_for(causal_recorder):
+                unread(causal_recorder)
+
+            @pytest.mark.causal("cc", "ccv", at_least_reads=2)
+            def test_two_asked_for(causal_recorder):
+                good(causal_recorder)
+        """
+        outcomes, text, kept = self.run_pytest(body)
+        self.assertEqual((outcomes, len(kept)), ({"passed": 2, "failed": 3}, 3), text)
+        self.assertEqual(text.count("no read was answered, and at_least_reads is 1"), 2, text)
+        self.assertIn("1 read was answered, and at_least_reads is 2", text)
+        outcomes, text, _ = self.run_pytest(body, ini="causal_at_least_reads = 0\n")
+        self.assertEqual(outcomes, {"passed": 4, "failed": 1}, text)
+
+    @needs_program
+    def test_reads_of_the_marker_alone(self):
+        """A marker that names no criterion, and how many reads, has the criteria of the ini file."""
+        body = """
+            @pytest.mark.causal(at_least_reads=2)
+            def test_diverged(causal_recorder):
+                diverged(causal_recorder)
+        """
+        self.assertEqual(self.run_pytest(body)[0], {"passed": 1})
+        self.assertEqual(self.run_pytest(body, ini="causal_criteria = ccv\n")[0], {"failed": 1})
+
+    def test_wrong_reads(self):
+        body = """
+            @pytest.mark.causal("cc", {})
+            def test_good(causal_recorder):
+                good(causal_recorder)
+        """
+        for named, said in (
+            ("at_least_reads=-1", "at_least_reads is a whole number from 0, not -1"),
+            ("at_least_reads='2'", "at_least_reads is a whole number from 0, not '2'"),
+            ("reads=2", "the marker causal takes criteria and at_least_reads, not reads"),
+        ):
+            outcomes, text, _ = self.run_pytest(body.format(named))
+            self.assertEqual(outcomes, {"failed": 1}, text)
+            self.assertIn(said, text)
+        for number in ("-1", "1.5", "many", ""):
+            _, text, _ = self.run_pytest(body.format(""), ini=f"causal_at_least_reads = {number}\n")
+            self.assertIn(f"ERROR: causal_at_least_reads: it is a whole number from 0, not {number!r}", text)
 
     @needs_program
     def test_criteria(self):
@@ -127,7 +211,7 @@ class Plugin(FolderCase):
                 lost_write(causal_recorder)
         """
         _, text, kept = self.run_pytest(body, ini="causal_logs = out/logs\n")
-        (log,) = (self.folder / "out" / "logs").iterdir()
+        (log,) = (self.folder / "out" / "logs").glob("*.jsonl")
         self.assertEqual(kept, [])
         self.assertIn(f"kept as {log}", text)
 
@@ -152,6 +236,7 @@ class Plugin(FolderCase):
         outcomes, text, kept = self.run_pytest(body, CAUSAL_JUDGE="/nowhere/judge")
         self.assertEqual((outcomes, len(kept)), ({"failed": 1}, 1), text)
         self.assertIn("was not judged: there is no program /nowhere/judge, which CAUSAL_JUDGE names. Install a package", text)
+        self.assertIn(f"There is no page {(self.folder / 'causal-logs' / kept[0]).with_suffix('.html')} of it: there is no program", text)
         self.assertNotIn("Traceback", text)
 
 

@@ -1,5 +1,6 @@
 """Tests what is said of logs: verdicts, assertions and explanations, and how the program is found and what it may do wrong."""
 
+import json
 import os
 import pathlib
 import stat
@@ -7,6 +8,7 @@ import unittest
 from unittest import mock
 
 from causal_judge import Line, ProgramMissing, Recorder, Refused, Verdict, assert_met, explain, judge, program
+from causal_judge.verdicts import save_page
 from support import FolderCase, needs_program, write_log
 
 WRITE, DONE = ["begin", "alice", ["w", "user:5/name", "v1"]], ["end", "alice", "ok"]
@@ -59,12 +61,26 @@ class Judged(FolderCase):
         self.assertIn("cm no WriteCOInitRead\n  as for cc\n", texts[0])
         self.assertEqual(verdict.reasons["cm"], texts[2])
 
+    def test_forms(self):
+        """Each form is a text of the program."""
+        write_log(self.log, LOST_WRITE)
+        self.assertEqual(explain(self.log, "words"), explain(self.log))
+        found = json.loads(explain(self.log, form="json"))
+        self.assertEqual(found[0], ["cc", "no", ["WriteCOInitRead", [[0, 0], [0, 1]]]])
+        self.assertTrue(explain(self.log, "svg").startswith("<svg"))
+        self.assertTrue(explain(self.log, "html").startswith("<!DOCTYPE html>"))
+        for form in ("pdf", "", None):
+            with self.assertRaisesRegex(ValueError, "there are words, json, svg, html"):
+                explain(self.log, form)
+
     def test_recorder(self):
         """A recorder that is open is judged as far as it got."""
         with Recorder(self.log) as recorder:
             recorder.client("a").write("k", "v", lambda: None)
             pending = recorder.client("b").begin_read("k")
             self.assertTrue(judge(recorder).meets())
+            with self.assertRaisesRegex(AssertionError, "no read was answered"):
+                assert_met(recorder)
             pending.end(None)
             self.assertTrue(assert_met(recorder).meets())
             recorder.client("b").read("k", lambda: "v")
@@ -121,6 +137,57 @@ class Asserted(FolderCase):
         write_log(self.log, REPEATED)
         with self.assertRaisesRegex(AssertionError, "[.]jsonl is not known to meet cc, cm, ccv[.]"):
             assert_met(self.log)
+
+    def test_too_few_reads(self):
+        """A run that reads nothing meets all criteria, and the assertion says how many reads were answered."""
+        for events, least, said in (
+            ([], 1, "no read was answered, and at_least_reads is 1:"),
+            ([WRITE, DONE], 1, "no read was answered, and at_least_reads is 1:"),
+            ([WRITE, DONE, ["begin", "bob", ["r", "k"]]], 1, "no read was answered, and at_least_reads is 1:"),
+            (GOOD, 2, "1 read was answered, and at_least_reads is 2:"),
+            (GOOD + GOOD[2:], 3, "2 reads were answered, and at_least_reads is 3:"),
+        ):
+            write_log(self.log, events)
+            with self.assertRaises(AssertionError) as raised:
+                assert_met(self.log, at_least_reads=least)
+            self.assertIn(f"cc yes\ncm yes\nccv yes\n{self.log}: {said}", str(raised.exception))
+            self.assertTrue(assert_met(self.log, at_least_reads=least - 1).meets())
+        write_log(self.log, LOST_WRITE)
+        with self.assertRaisesRegex(AssertionError, "does not meet cc, cm, ccv[.]$"):
+            assert_met(self.log, at_least_reads=5)
+
+    def test_no_number_of_reads(self):
+        write_log(self.log, GOOD)
+        for count in (-1, 1.0, "1", None, True):
+            with self.subTest(count=count), self.assertRaisesRegex(ValueError, "at_least_reads is a whole number from 0"):
+                assert_met(self.log, at_least_reads=count)
+
+    def test_page(self):
+        """It is written where a criterion is not met, or too little was read, and named in the message."""
+        page = self.folder / "out" / "run.html"
+        write_log(self.log, GOOD)
+        assert_met(self.log, page=page)
+        self.assertFalse(page.exists())
+        for events in (LOST_WRITE, REPEATED, [WRITE, DONE]):
+            write_log(self.log, events)
+            with self.assertRaises(AssertionError) as raised:
+                assert_met(self.log, page=str(page))
+            self.assertTrue(str(raised.exception).endswith(f"\nThe page {page} shows it."))
+            self.assertEqual(page.read_text(encoding="utf-8"), explain(self.log, "html"))
+        self.assertEqual(list(page.parent.iterdir()), [page])
+
+    def test_page_that_can_not_be_written(self):
+        """Then the message says why, after what is not met; an old page does not stay."""
+        write_log(self.log, LOST_WRITE)
+        for page in (self.folder, self.log / "run.html"):
+            with self.assertRaises(AssertionError) as raised:
+                assert_met(self.log, "cc", page=page)
+            self.assertRegex(str(raised.exception), rf"does not meet cc[.]\nThere is no page {page} of it: \[Errno \d+\] ")
+        page = self.folder / "run.html"
+        page.write_text("an old page")
+        with mock.patch("causal_judge.verdicts.explain", side_effect=RuntimeError("ended with status 4")):
+            self.assertEqual(save_page(self.log, page), f"There is no page {page} of it: ended with status 4")
+        self.assertEqual(list(self.folder.iterdir()), [self.log])
 
     def test_no_criterion(self):
         write_log(self.log, GOOD)

@@ -19,4 +19,24 @@ Importer: TypeAlias = Callable[[TextIO, Counter[str]], Iterator[Event]]
 
 FORMATS: dict[str, Importer] = {"jepsen": read_jepsen, "jsonl": read_jsonl, "porcupine": read_porcupine, "sessions": read_sessions}
 
-__all__ = ["FORMATS", "FormatError", "Importer"]
+ABOUT: dict[str, tuple[str, str]] = {
+    "jepsen": (
+        "registers in EDN: their reads, writes and compare-and-sets",
+        "a test of Jepsen leaves it as store/TEST/TIME/history.edn",
+    ),
+    "jsonl": (
+        "an object of JSON a call: client, key, value, times and outcome",
+        "a program of yours writes it, or a query of traces or a table",
+    ),
+    "porcupine": (
+        "an object of JSON an event of a key-value model of Porcupine",
+        "a test in Go writes its []porcupine.Event with encoding/json",
+    ),
+    "sessions": (
+        "a session a line, each operation as w(key,value) or r(key,value)",
+        "papers and other checkers print it, and people write it by hand",
+    ),
+}
+"""Of each format, what a text of it has, and where such a text comes from."""
+
+__all__ = ["ABOUT", "FORMATS", "FormatError", "Importer"]

@@ -13,7 +13,7 @@ from typing import NamedTuple, TextIO, TypeAlias
 from causal_judge.events import Event, Name, Value
 from causal_judge.importers.json_lines import Fields, name_of, objects_of, shown_field, value_of, word_of
 from causal_judge.importers.scanning import FormatError, shown
-from causal_judge.importers.writing import at_line, ended, lost
+from causal_judge.importers.writing import Clients, at_line, ended, lost
 
 Time: TypeAlias = int | float
 
@@ -42,7 +42,8 @@ class Timed(NamedTuple):
 
 
 def read_jsonl(stream: TextIO, left_out: Counter[str]) -> Iterator[Event]:
-    """The events of calls with their times: client by client, each one's calls in the order of their starts.
+    """The events of calls with their times: client by client, each one's calls in the order of their starts. After a call that got no answer
+    a client is a new one.
 
     It keeps all calls, since they may come in any order. Of different clients no times are compared, so the log is in no order of time:
     judge it as a whole. Raises FormatError at a line that is no call, and where two calls of a client overlap, or are at one time.
@@ -55,8 +56,9 @@ def read_jsonl(stream: TextIO, left_out: Counter[str]) -> Iterator[Event]:
             left_out[FAILED[word]] += 1
         else:
             clients.setdefault(client, []).append(timed)
+    names = Clients()
     for client, calls in clients.items():
-        yield from _session_of(client, calls)
+        yield from _session_of(client, calls, names)
 
 
 def _timed_of(line: int, fields: Fields, word: str) -> Timed | None:
@@ -95,14 +97,16 @@ def _ok_of(line: int, fields: Fields, has_end: bool) -> bool | None:
     return ok
 
 
-def _session_of(client: Name, calls: list[Timed]) -> Iterator[Event]:
-    """The events of a client. Raises FormatError where two of its calls are in no order."""
+def _session_of(client: Name, calls: list[Timed], names: Clients) -> Iterator[Event]:
+    """The events of a client, which is a new one after a call without an answer. Raises FormatError where two calls are in no order."""
     calls.sort(key=lambda timed: (timed.start, timed.latest))
     for before, timed in zip([None, *calls], calls):
         if before is not None and not _is_before(before, timed):
             first, second = sorted((before.line, timed.line))
             raise FormatError(second, f"this call of {shown(client)} and that of line {first} {_why(before, timed)}")
-        yield from at_line(timed.line, _events_of(client, timed))
+        yield from at_line(timed.line, _events_of(names.name_of(client), timed))
+        if not timed.is_answered:
+            names.renew(client)
 
 
 def _is_before(one: Timed, other: Timed) -> bool:

@@ -12,7 +12,7 @@ from typing import Any, NamedTuple, TextIO
 from causal_judge.events import Event, Name, Value
 from causal_judge.importers.json_lines import Fields, name_of, objects_of, shown_field, value_of
 from causal_judge.importers.scanning import FormatError, shown
-from causal_judge.importers.writing import Call, at_line, read_of, write_of
+from causal_judge.importers.writing import Call, Clients, at_line, read_of, write_of
 
 CALL, RETURN = "call", "return"
 KINDS: dict[Any, str] = {"call": CALL, "return": RETURN, 0: CALL, 1: RETURN}
@@ -30,8 +30,8 @@ class Pending(NamedTuple):
 def read_porcupine(stream: TextIO, left_out: Counter[str]) -> Iterator[Event]:
     """The events of a Porcupine history, in the order of its lines. Nothing is left out.
 
-    It keeps what is pending, and the ids of the calls that never returned. Raises FormatError at a line that is no event of the key-value
-    model, at an append, and at an event that does not fit those before it.
+    It keeps what is pending, the names of the clients, and the ids of the calls that never returned. Raises FormatError at a line that is no
+    event of the key-value model, at an append, and at an event that does not fit those before it.
     """
     history = History()
     for line, fields in objects_of(stream):
@@ -50,18 +50,20 @@ class History:
         self._pending: dict[Name, Pending] = {}
         self._owners: dict[Name, Name] = {}
         self._lost: set[Name] = set()
+        self._clients = Clients()
 
     def call(self, client: Name, called: Pending) -> Iterator[Event]:
-        """A client calls. Where its last call has not returned, that one is lost: it may not return any more."""
+        """A client calls. Where its last call has not returned, that one is lost: it may not return any more, and another client goes on."""
         if called.id in self._owners or called.id in self._lost:
             raise FormatError(called.line, f'the "Id" {shown(called.id)} is that of another call, which has not returned')
         before = self._pending.get(client)
         if before is not None:
             del self._owners[before.id]
             self._lost.add(before.id)
-            yield ["lost", client]
+            yield ["lost", self._clients.name_of(client)]
+            self._clients.renew(client)
         self._pending[client], self._owners[called.id] = called, client
-        yield ["begin", client, called.call]
+        yield ["begin", self._clients.name_of(client), called.call]
 
     def end(self, line: int, client: Name, number: Name, returned: object) -> Iterator[Event]:
         """A call returns."""
@@ -72,7 +74,7 @@ class History:
         if pending is None or pending.id != number:
             raise FormatError(line, f'the client {shown(client)} has no call pending with the "Id" {shown(number)}')
         del self._pending[client], self._owners[number]
-        yield ["end", client, _answer_of(line, pending.call, returned)]
+        yield ["end", self._clients.name_of(client), _answer_of(line, pending.call, returned)]
 
 
 def _kind_of(line: int, fields: Fields) -> str:
