@@ -1,12 +1,14 @@
 #!/usr/bin/env python3
-"""Runs examples/redis, and with --long examples/etcd, over real servers on the loopback, and says which runs came out wrong.
+"""Runs examples/redis, and with --long those of etcd, postgresql and zookeeper, over real servers on the loopback, and says which runs came
+out wrong.
 
     python3 tests/live_stores.py [--long] -- PROGRAM
 
 - Where reads are those of one copy, no run is a `no`: at the primary of redis, also while servers or relays are stopped, so that clients
-  get no answers and their writes take effect later or never; with --long by linearizable reads of etcd, also while members are stopped.
-- Where replicas answer from what they have, a run is a `no` within 40. The page that is kept is what PROGRAM explains of the kept log, and
-  the plain judge gives the same lines.
+  get no answers and their writes take effect later or never; with --long by linearizable reads of etcd, also while members are stopped. So
+  it is where each client stays at one standby of PostgreSQL or in one session of ZooKeeper, also where connections break.
+- Where replicas answer from what they have, and a client moves between them, a run is a `no` within 40. The page that is kept is what
+  PROGRAM explains of the kept log, and the plain judge gives the same lines.
 - A series that is interrupted ends its servers and leaves no file. Without a program or a server the status says that nothing was judged.
 - Writes that are answered with faults are recorded as the examples say (live_faults.py).
 
@@ -14,6 +16,7 @@ A seed gives the same calls, but threads and servers take turns as they like, so
 """
 
 import argparse
+import glob
 import os
 import pathlib
 import re
@@ -30,55 +33,94 @@ from counting import counted, end
 
 HERE = pathlib.Path(__file__).resolve().parent
 SECONDS, JOBS, MOST_STALE_RUNS = 600, 4, 40
+# PostgreSQL runs as another user than root, and has to reach its folder.
+OPEN = 0o711
 YES = "cc yes; cm yes; ccv yes"
 RUN = re.compile(r"seed \d+: (.*) \(\d+ calls, \d+ failed, (\d+) lost, (\d+) of them read\)")
 ALL_YES, NOT_JUDGED, ONE_NO, INTERRUPTED = 0, 2, 5, 130
+COMPARES = ("--compare-and-sets",)
 
 
 class Steady(NamedTuple):
-    """Runs of a mode in which none may be a `no`: their seeds, and at least how many calls they lose, and how many lost writes are read."""
+    """Runs of a mode in which none may be a `no`: their seeds, at least how many calls they lose, and how many lost writes are read; and
+    further words of theirs."""
 
     mode: str
     seeds: range
     lost: int
     read: int
+    more: tuple = ()
 
 
 class Example(NamedTuple):
-    """An example: the Python that runs it, the server and the module that it needs, what installs these, and its modes."""
+    """An example: the Python that runs it, the module and the programs and files that it needs, what installs these, its modes, and which
+    word of the environment hides which of its needs."""
 
     name: str
     python: str
-    server: str
     module: str
+    needs: tuple
     install: str
     steady: tuple
     stale: str
+    hidden: tuple
 
     def lacks(self):
         """Whether this machine lacks something."""
         can_import = [self.python, "-c", f"import {self.module}"]
         is_there = shutil.which(self.python) and subprocess.run(can_import, capture_output=True, check=False).returncode == 0
-        return not (is_there and shutil.which(self.server))
+        return not (is_there and all(shutil.which(need) or glob.glob(need) for need in self.needs))
 
 
 REDIS = Example(
     "redis",
     "/usr/bin/python3",
-    "redis-server",
     "redis",
+    ("redis-server",),
     "apt-get install redis-server python3-redis",
-    (Steady("primary", range(1, 21), 0, 0), Steady("paused", range(1, 26), 150, 25), Steady("paused", range(26, 51), 150, 25)),
+    (
+        Steady("primary", range(1, 21), 0, 0),
+        Steady("paused", range(51, 61), 40, 4, COMPARES),
+        Steady("paused", range(1, 26), 150, 25),
+        Steady("paused", range(26, 51), 150, 25),
+    ),
     "replicas",
+    ("PATH", "redis-server"),
 )
 ETCD = Example(
     "etcd",
     sys.executable,
-    "etcd",
     "http.client",
+    ("etcd",),
     "apt-get install etcd-server",
-    (Steady("linearizable", range(1, 21), 0, 0), Steady("paused", range(1, 21), 100, 5), Steady("paused", range(21, 41), 100, 5)),
+    (
+        Steady("linearizable", range(1, 21), 0, 0),
+        Steady("paused", range(41, 51), 40, 1, COMPARES),
+        Steady("paused", range(1, 21), 100, 5),
+        Steady("paused", range(21, 41), 100, 5),
+    ),
     "serializable",
+    ("PATH", "etcd"),
+)
+POSTGRESQL = Example(
+    "postgresql",
+    "/usr/bin/python3",
+    "psycopg2",
+    ("/usr/lib/postgresql/*/bin/initdb",),
+    "apt-get install postgresql python3-psycopg2",
+    (Steady("applied", range(1, 21), 0, 0), Steady("broken", range(1, 21), 50, 10), Steady("broken", range(21, 41), 50, 10)),
+    "moving",
+    ("POSTGRES", "initdb"),
+)
+ZOOKEEPER = Example(
+    "zookeeper",
+    sys.executable,
+    "http.client",
+    ("java", "javac", "/usr/share/java/zookeeper.jar"),
+    "apt-get install libzookeeper-java default-jdk-headless",
+    (Steady("sessions", range(1, 16), 0, 0), Steady("synced", range(1, 16), 0, 0), Steady("paused", range(1, 11), 5, 0)),
+    "pool",
+    ("CLASSPATH", "Is ZooKeeper installed?"),
 )
 
 
@@ -89,6 +131,7 @@ class Place:
         self.folder = pathlib.Path(tempfile.mkdtemp(dir=room))
         self.logs, self.passing = self.folder / "logs", self.folder / "passing"
         self.passing.mkdir()
+        self.folder.chmod(OPEN)
         self.environment = {**os.environ, "CAUSAL_JUDGE": program, "TMPDIR": str(self.passing)}
 
     def start(self, example, *words, **changed):
@@ -123,8 +166,8 @@ def works_in(number, folder):
 def steady_cases(example, steady, place):
     """A series of runs none of which may be a `no`: a case for each run, and for the whole."""
     seeds = ["--seed", str(steady.seeds.start), "--runs", str(len(steady.seeds))]
-    status, text, errors = place.ended(place.start(example, steady.mode, *seeds, "--all"))
-    name, runs = f"{example.name} {steady.mode}", RUN.findall(text)
+    status, text, errors = place.ended(place.start(example, steady.mode, *seeds, *steady.more, "--all"))
+    name, runs = " ".join((example.name, steady.mode, *steady.more)), RUN.findall(text)
     for seed, (lines, *_) in zip(steady.seeds, runs):
         yield f"{name}, seed {seed}: {lines}", lines == YES
     yield f"{name}: status {status}, {len(runs)} runs, {errors}", (status, len(runs), errors) == (ALL_YES, len(steady.seeds), "")
@@ -189,7 +232,8 @@ def parts_of(example, program, room):
     for number in (signal.SIGINT, signal.SIGTERM):
         yield lambda number=number: interrupted_cases(example, number, Place(room, program))
     yield lambda: missing_cases(example, "causal_judge", Place(room, f"{room}/causal_judge"))
-    yield lambda: missing_cases(example, example.server, Place(room, program), PATH=room)
+    word, need = example.hidden
+    yield lambda: missing_cases(example, need, Place(room, program), **{word: room})
     yield lambda: fault_cases(example)
 
 
@@ -199,7 +243,8 @@ def main():
     given = with_program(parser)
     program, counts, skipped = str(pathlib.Path(given.program[0]).resolve()), (0, 0), 0
     with tempfile.TemporaryDirectory(prefix="live-stores-") as room, ThreadPoolExecutor(JOBS) as pool:
-        for example in (REDIS, ETCD) if given.long else (REDIS,):
+        os.chmod(room, OPEN)
+        for example in (REDIS, ETCD, POSTGRESQL, ZOOKEEPER) if given.long else (REDIS,):
             if example.lacks():
                 print(f"{example.name} is left out: {example.install}", flush=True)
                 skipped += 1

@@ -22,27 +22,35 @@ CERTAIN = NotDone
 
 
 class User:
-    """A client of a run, which makes each call at any of the members."""
+    """A client of a run, which makes each call at any of the members. It knows what it saw last of each key."""
 
-    def __init__(self, client: Client, rng: random.Random, members: Sequence[Member], is_serializable: bool) -> None:
-        self.client, self.rng, self.members, self.is_serializable = client, rng, members, is_serializable
+    def __init__(self, client: Client, rng: random.Random, members: Sequence[Member], is_serializable: bool, compares: bool) -> None:
+        self.client, self.rng, self.members, self.is_serializable, self.compares = client, rng, members, is_serializable, compares
+        self.seen: dict[str, str | None] = {}
 
     def run(self, keys: Sequence[str]) -> None:
         """Makes all calls of the client, one after the other, over connections of its own."""
         with contextlib.ExitStack() as ending:
             gateways = [ending.enter_context(Gateway(member.port)) for member in self.members]
-            for step in steps(self.rng, keys):
+            for step in steps(self.rng, keys, self.compares):
                 time.sleep(step.pause)
                 with contextlib.suppress(NotDone, NotKnown):
                     self.call(step, self.rng.choice(gateways))
 
     def call(self, step: Step, gateway: Gateway) -> None:
-        """Makes one call, recorded. What it raises was recorded as well."""
+        """Makes one call, recorded. What it raises was recorded as well.
+
+        All members make deletes in one order, and one that finds nothing changes nothing at any of them: it fails.
+        """
         key = step.key
         if step.word == "read":
-            self.client.read(key, lambda: gateway.get(key, self.is_serializable))
+            self.seen[key] = self.client.read(key, lambda: gateway.get(key, self.is_serializable))
         elif step.word == "delete":
             self.client.delete(key, lambda: gateway.delete(key), found=bool)
-        else:
+        elif step.word == "write":
             value = self.client.new_value()
             self.client.write(key, value, lambda: gateway.put(key, value))
+            self.seen[key] = value
+        else:
+            value, expected = self.client.new_value(), self.seen.get(key)
+            self.client.compare_and_set(key, value, lambda: gateway.compare_and_set(key, expected, value))

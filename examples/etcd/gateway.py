@@ -38,6 +38,13 @@ class Gateway:
         """Writes a value to a key."""
         self._call("put", {"key": _coded(key), "value": _coded(value)})
 
+    def compare_and_set(self, key: str, expected: str | None, value: str) -> bool:
+        """Writes a value if the key holds what is expected, or nothing where that is None; gives whether it wrote."""
+        compared = {"target": "VERSION", "version": 0} if expected is None else {"target": "VALUE", "value": _coded(expected)}
+        written = {"request_put": {"key": _coded(key), "value": _coded(value)}}
+        answer = self._call("txn", {"compare": [{"key": _coded(key), "result": "EQUAL", **compared}], "success": [written]})
+        return bool(answer.get("succeeded", False))
+
     def delete(self, key: str) -> int:
         """Deletes a key; gives how many keys that deleted."""
         return int(self._call("deleterange", {"key": _coded(key)}).get("deleted", 0))

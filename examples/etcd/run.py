@@ -1,7 +1,7 @@
 #!/usr/bin/env python3
 """Runs clients over three members of etcd, records them, and has each run judged.
 
-    python3 examples/etcd/run.py MODE [--runs N] [--seed N] [--all] [--logs DIR]
+    python3 examples/etcd/run.py MODE [--runs N] [--seed N] [--all] [--logs DIR] [--compare-and-sets]
 
     linearizable   each call goes to any member; reads are linearizable, as they are unless one asks for less
     serializable   each call goes to any member; reads are serializable, so a member answers from what it has; now and then a member is
@@ -15,6 +15,7 @@ explained, and its log is kept. The status is 0 where each run is three yes, 5 w
 
 from __future__ import annotations
 
+import argparse
 import functools
 import pathlib
 import random
@@ -43,13 +44,14 @@ def pause_one(members: Sequence[Member], rng: random.Random, pauses: tuple[float
         time.sleep(rng.uniform(*pauses))
 
 
-def make_run(mode: str, members: Sequence[Member], recorder: Recorder, seed: int) -> None:
+def make_run(given: argparse.Namespace, members: Sequence[Member], recorder: Recorder, seed: int) -> None:
     """One run of four clients over keys of its own, which hold a value at its start."""
-    rng, keys = random.Random(seed), keys_of(seed)
+    rng, keys, mode = random.Random(seed), keys_of(seed), given.mode
     for key, value in prepare(members, keys).items():
         recorder.start(key, value)
     clients = [recorder.client(name, fails=CERTAIN) for name in CLIENTS]
-    users = [User(client, random.Random(rng.random()), members, mode == "serializable") for client in clients]
+    how = mode == "serializable", given.compare_and_sets
+    users = [User(client, random.Random(rng.random()), members, *how) for client in clients]
     meanwhile = functools.partial(pause_one, members, rng, PAUSES[mode]) if mode in PAUSES else None
     side_by_side([functools.partial(user.run, keys) for user in users], meanwhile)
 
@@ -57,7 +59,7 @@ def make_run(mode: str, members: Sequence[Member], recorder: Recorder, seed: int
 def main(words: Sequence[str] | None = None) -> int:
     """Starts the members and makes the runs; gives the status."""
     given = words_for(__doc__, MODES).parse_args(words)
-    return series(given, started(), functools.partial(make_run, given.mode))
+    return series(given, started(), functools.partial(make_run, given))
 
 
 if __name__ == "__main__":

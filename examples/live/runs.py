@@ -15,6 +15,7 @@ from typing import NamedTuple, TypeVar
 
 from causal_judge import ProgramMissing, Recorder, Refused, Verdict, judge
 from causal_judge.events import read_log
+from causal_judge.program import find_program
 from processes import StartError
 
 Servers = TypeVar("Servers")
@@ -42,13 +43,13 @@ def tally_of(log: pathlib.Path) -> Tally:
     with log.open("rb") as stream:
         for _, event in read_log(stream):
             match event:
-                case ["begin", client, call]:
+                case ["begin", client, call, *_]:
                     calls, pending[client] = calls + 1, call
-                case ["fail", _]:
+                case ["fail", *_]:
                     failed += 1
-                case ["lost", client]:
+                case ["lost", client, *_]:
                     lost.append(tuple(pending[client]))
-                case ["end", client, answer] if pending[client][0] == "r":
+                case ["end", client, answer, *_] if pending[client][0] == "r":
                     read.add(("w", pending[client][1], answer))
     return Tally(calls, failed, len(lost), len(read.intersection(lost)))
 
@@ -60,21 +61,36 @@ def words_for(description: str | None, modes: Sequence[str]) -> argparse.Argumen
     parser.add_argument("--runs", type=int, default=40, metavar="N", help="how many runs at most (40)")
     parser.add_argument("--seed", type=int, default=1, metavar="N", help="the seed of the first run (1); each further run has the next one")
     parser.add_argument("--all", action="store_true", help="make all runs, also after a no, and explain none")
+    compares = "make half of the writes compare-and-sets of what the client saw last of the key"
+    parser.add_argument("--compare-and-sets", action="store_true", help=compares)
     kept = "where the log of a run that is a no is kept (causal-logs)"
     parser.add_argument("--logs", type=pathlib.Path, default=pathlib.Path("causal-logs"), metavar="DIR", help=kept)
     return parser
 
 
 def series(given: argparse.Namespace, servers: AbstractContextManager[Servers], run: Callable[[Servers, Recorder, int], None]) -> int:
-    """Makes a series of runs on these servers, each with a recorder and a seed, and gives the status of the process.
+    """Makes a series of runs as series_of_logs does, each with a recorder of its log."""
+
+    def recorded(started: Servers, log: pathlib.Path, seed: int) -> None:
+        with Recorder(log) as recorder:
+            run(started, recorder, seed)
+
+    return series_of_logs(given, servers, recorded)
+
+
+def series_of_logs(
+    given: argparse.Namespace, servers: AbstractContextManager[Servers], run: Callable[[Servers, pathlib.Path, int], None]
+) -> int:
+    """Makes a series of runs on these servers, each with a log to write and a seed, and gives the status of the process.
 
     It is 0 where each run is three yes, 5 where one is not, 2 where nothing was judged, and 130 after Ctrl-C or another request to end.
     """
     for number in (signal.SIGINT, signal.SIGTERM, signal.SIGHUP):
         signal.signal(number, _stop)
     try:
+        find_program()
         with servers as started, tempfile.TemporaryDirectory(prefix="live-logs-") as room:
-            return _judge_runs(given, lambda recorder, seed: run(started, recorder, seed), pathlib.Path(room))
+            return _judge_runs(given, lambda log, seed: run(started, log, seed), pathlib.Path(room))
     except KeyboardInterrupt:
         return INTERRUPTED
     except (ProgramMissing, Refused, StartError, OSError) as fault:
@@ -87,13 +103,12 @@ def _stop(number: int, frame: FrameType | None) -> None:
     raise KeyboardInterrupt
 
 
-def _judge_runs(given: argparse.Namespace, run: Callable[[Recorder, int], None], room: pathlib.Path) -> int:
+def _judge_runs(given: argparse.Namespace, run: Callable[[pathlib.Path, int], None], room: pathlib.Path) -> int:
     """Makes the runs one after the other, up to the first that is not three yes."""
     met, made, total = 0, 0, Tally(0, 0, 0, 0)
     for seed in range(given.seed, given.seed + given.runs):
         log = room / f"{given.mode}-{seed}.jsonl"
-        with Recorder(log) as recorder:
-            run(recorder, seed)
+        run(log, seed)
         verdict, tally = judge(log), tally_of(log)
         print(f"seed {seed}: {'; '.join(map(str, verdict.lines))} ({tally})", flush=True)
         met, made, total = met + verdict.meets(), made + 1, Tally(*(one + other for one, other in zip(total, tally)))

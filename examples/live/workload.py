@@ -1,4 +1,4 @@
-"""What the clients of an example do: a few of them read, write and delete a few keys, by a seed."""
+"""What the clients of an example do: a few of them read, write and delete a few keys, and compare and set them, by a seed."""
 
 from __future__ import annotations
 
@@ -13,10 +13,11 @@ FIRST_VALUE = "from before"
 CALLS = 40
 LONGEST_PAUSE = 0.004
 WRITE_SHARE, DELETE_SHARE = 0.4, 0.1
+COMPARE_SHARE = 0.2
 
 
 class Step(NamedTuple):
-    """A call that a client makes after a pause in seconds: "write", "read" or "delete", and the key."""
+    """A call that a client makes after a pause in seconds: "write", "compare and set", "read" or "delete", and the key."""
 
     pause: float
     word: str
@@ -28,12 +29,14 @@ def keys_of(seed: int) -> tuple[str, ...]:
     return tuple(f"run{seed}:{fruit}" for fruit in FRUITS)
 
 
-def steps(rng: random.Random, keys: Sequence[str]) -> Iterator[Step]:
-    """The calls of one client."""
+def steps(rng: random.Random, keys: Sequence[str], compares: bool = False) -> Iterator[Step]:
+    """The calls of one client. If told so, half of what would be writes are compare-and-sets."""
     for _ in range(CALLS):
         pause, fate, key = rng.uniform(0, LONGEST_PAUSE), rng.random(), rng.choice(keys)
         if fate < DELETE_SHARE:
             yield Step(pause, "delete", keys[-1])
+        elif compares and fate < DELETE_SHARE + COMPARE_SHARE:
+            yield Step(pause, "compare and set", key)
         else:
             yield Step(pause, "write" if fate < DELETE_SHARE + WRITE_SHARE else "read", key)
 

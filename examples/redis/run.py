@@ -1,7 +1,8 @@
 #!/usr/bin/python3
 """Runs clients over a primary and two replicas of redis, records them, and has each run judged.
 
-    /usr/bin/python3 examples/redis/run.py MODE [--runs N] [--seed N] [--all] [--logs DIR] [--delay MILLISECONDS] [--driver-retries N]
+    /usr/bin/python3 examples/redis/run.py MODE [--runs N] [--seed N] [--all] [--logs DIR] [--compare-and-sets] [--delay MILLISECONDS]
+                                                [--driver-retries N]
 
     primary    all calls go to the primary
     replicas   writes go to the primary, and each read to one of the replicas, which lag behind by the delay of their relays
@@ -52,7 +53,7 @@ def make_run(given: argparse.Namespace, stores: Stores, recorder: Recorder, seed
         recorder.start(key, value)
     primary = stores.behind_front() if is_paused else stores.primary
     reads_at = stores.replicas if given.mode == "replicas" else (primary,)
-    place = Place(primary, reads_at, len(stores.replicas) if is_paused else 0, given.driver_retries)
+    place = Place(primary, reads_at, len(stores.replicas) if is_paused else 0, given.driver_retries, given.compare_and_sets)
     users = [User(recorder.client(name, fails=CERTAIN), random.Random(rng.random()), place) for name in CLIENTS]
     side_by_side([functools.partial(user.run, keys) for user in users], functools.partial(pause_one, stores, rng) if is_paused else None)
 
