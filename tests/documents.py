@@ -14,7 +14,8 @@ Lines that begin with `> ` right after a command belong to it, as those of a her
     <!-- installs: deb -->                       before a block: left out here, and run by release/test.sh
     <!-- long, any kind: threads take turns -->  before a block: run with --long alone, and `no KIND` stands for a no of any kind
 
-Each link of a page leads to a file that is there, and README.md has at most 1,500 words. The commands that the program's own help shows,
+Each link of a page leads to a file that is there, and README.md has at most 1,500 words. The pages of a package, with the library for C and
+without it, name no file and no library that the package lacks. The commands that the program's own help shows,
 that of each command too, are run in the same way.
 
 The files of examples/ are judged, explained, checked, refuted, replayed and driven; those that end in .jsonl are logs of events. What is
@@ -34,6 +35,7 @@ import tempfile
 from typing import NamedTuple
 
 import driven
+import packed_pages
 import plain_events
 from command_words import STORES, order_of, with_program
 from counting import end
@@ -43,7 +45,6 @@ ROOT = pathlib.Path(__file__).resolve().parent.parent
 PAGES = ("README.md", "docs/*.md", "embed/*.md", "examples/**/*.md")
 BUILT = pathlib.Path("crates", "causal_judge", "out", "causal_judge")
 MARK = re.compile(r"<!-- (not run|installs|long, any kind): (.*) -->")
-LINK = re.compile(r"\]\((?!https?:)([^)#\s]+)")
 MOST_WORDS = 1_500
 COMMAND = re.compile(r"( {4,})\$ (.*)")
 LEFT_OUT = ("not run", "installs")
@@ -172,7 +173,7 @@ def try_page(page, given, folder):
 def told_by(page, given):
     """The faults of what a page is: a link that leads nowhere, or more words than README.md may have."""
     text = page.read_text(encoding="utf-8")
-    lost = [link for link in LINK.findall(text) if not (page.parent / link).exists()]
+    lost = [link for link in packed_pages.LINK.findall(text) if not (page.parent / link).exists()]
     yield [f"{page.relative_to(given.root)}: no file {link}" for link in lost]
     if page == given.root / "README.md":
         yield [f"README.md has {len(text.split())} words"] if len(text.split()) > MOST_WORDS else []
@@ -185,6 +186,16 @@ def try_pages(given):
             yield from told_by(page, given)
             with tempfile.TemporaryDirectory() as room:
                 yield from try_page(page, given, pathlib.Path(room))
+
+
+def packed_by(given):
+    """The faults of the pages that a package has, without the library for C and with it."""
+    for words in ((), ("--library",)):
+        with tempfile.TemporaryDirectory() as room:
+            copy, folder = copy_of(given.root, given.program[0], pathlib.Path(room, "run"))[0], pathlib.Path(room, "pages")
+            packed_pages.written(copy, folder, *words)
+            names = [*packed_pages.files_below(folder), *packed_pages.MADE]
+            yield list(packed_pages.faults_of(packed_pages.pages_below(folder), names, packed_pages.files_below(copy), bool(words)))
 
 
 def try_helps(given):
@@ -293,7 +304,7 @@ def main():
         return
     given = with_program(parser)
     passed = failed = 0
-    for faults in (*try_pages(given), *(() if given.page else (*try_helps(given), *runs_of(given), *folders_of(given)))):
+    for faults in (*try_pages(given), *(() if given.page else (*packed_by(given), *try_helps(given), *runs_of(given), *folders_of(given)))):
         passed, failed = passed + (not faults), failed + bool(faults)
         if faults:
             print(*faults, sep="\n", flush=True)

@@ -8,8 +8,9 @@ to write no package, without the mark that a passed gate leaves, with the mark o
 file is not as in the commit. With the right mark it has to make packages.
 
 `release/build.sh --unproved` has to make packages whose names and BUILD files say so, and two builds in two folders have to give the same
-bytes. The Debian package has to depend on libc6 alone, and to say the size of its files. The man pages have to say all that the help of
-each command says after its options. The completions have to name each command, and their shells have to read them without a fault.
+bytes. The Debian package has to depend on libc6 alone, to say the size of its files, and to have the Python package where Debian's Python
+finds it. The man pages have to say all that the help of each command says after its options. The completions have to name each command,
+and their shells have to read them without a fault. The pages have to name no file that their package lacks.
 
 What the machine lacks is named as skipped, with the line that installs it. The test takes about half a minute.
 """
@@ -23,6 +24,7 @@ import pathlib
 import re
 import shutil
 import subprocess
+import sys
 import tarfile
 import tempfile
 import time
@@ -30,6 +32,7 @@ import zipfile
 from concurrent.futures import ThreadPoolExecutor
 from typing import NamedTuple
 
+import packed_pages
 from command_words import with_program
 from counting import counted, end
 from streams import is_unproved
@@ -39,8 +42,17 @@ BUILT = pathlib.Path("crates", "causal_judge", "out", "causal_judge")
 TOOLS = {"git": "git", "help2man": "help2man", "dpkg-deb": "dpkg", "objdump": "binutils", "gzip": "gzip"}
 COMMITTER = ("-c", "user.name=nobody", "-c", "user.email=nobody@localhost", "-c", "commit.gpgsign=false", "-c", "core.hooksPath=/dev/null")
 APART_SECONDS = 1.2
+DOC = "share/doc/causal-judge/"
 OTHER_COMMIT, OTHER_SUM, GATE = "0" * 40, "0" * 64, "1 passed, 0 failed"
 SIGNS = {r"\(aq": "'", r"\(ga": "`", r"\(ha": "^", r"\(ti": "~", r"\-": "-", r"\&": "", r"\e": "\\"}
+DIST_PACKAGES = "./usr/lib/python3/dist-packages/"
+FOUND_BY_PYTHON = """
+import causal_judge
+import importlib.metadata as data
+
+(plugin,) = [found for found in data.entry_points(group="pytest11") if found.name == "causal_judge"]
+print(causal_judge.__file__, data.version("causal_judge"), plugin.value)
+"""
 COMPLETIONS = {
     "bash": ("share/bash-completion/completions/causal_judge", ["bash", "-n"]),
     "zsh": ("share/zsh/site-functions/_causal_judge", ["zsh", "-f", "-n"]),
@@ -174,10 +186,42 @@ def sums_of(clone, out):
 
 def debian(package):
     """What the Debian package says of itself."""
-    depends, size = (said_by("dpkg-deb", "-f", package, field).strip() for field in ("Depends", "Installed-Size"))
+    depends, suggests, size = (said_by("dpkg-deb", "-f", package, field).strip() for field in ("Depends", "Suggests", "Installed-Size"))
     yield f"depends on libc6 alone: {depends}", re.fullmatch(r"libc6 \(>= \d+(\.\d+)+\)", depends)
+    yield f"suggests the Python that its package needs: {suggests}", suggests == "python3 (>= 3.10)"
     due = -(-sum(map(len, packed(package).values())) // 1024)
     yield f"the size of its files is {due} KiB, and it says {size}", size == str(due)
+
+
+def pages(clone, package):
+    """Whether the pages of a package without the library name and link to nothing that it lacks."""
+    files = {name.partition(DOC)[2]: data for name, data in packed(package).items() if DOC in name}
+    texts = {name: data.decode() for name, data in files.items() if name.endswith(".md")}
+    faults = list(packed_pages.faults_of(texts, files, files_of(clone.root), False))
+    print(*faults, sep="\n", end="\n" if faults else "", flush=True)
+    yield f"the pages of {package.suffix} name no file that it lacks", texts and not faults
+
+
+def debian_python(clone, package):
+    """The Python package where Debian's Python looks for packages, and the scripts that compile it and clean up after it."""
+    files = {name.removeprefix(DIST_PACKAGES): data for name, data in packed(package).items() if name.startswith(DIST_PACKAGES)}
+    source, room, control = clone.root / "python", clone.room / "dist-packages", clone.room / "control"
+    due = {str(path.relative_to(source)): path.read_bytes() for path in (source / "causal_judge").rglob("*.py")}
+    yield "the Python package is in dist-packages as it is here", due and due.items() <= files.items()
+    for name, data in files.items():
+        (room / name).parent.mkdir(parents=True, exist_ok=True)
+        (room / name).write_bytes(data)
+    kept = {name: value for name, value in os.environ.items() if name not in ("PYTHONPATH", "CAUSAL_JUDGE")}
+    how = {"check": False, "cwd": room, "env": kept, "stdout": subprocess.PIPE, "stdin": subprocess.DEVNULL, "text": True}
+    said = subprocess.run([sys.executable, "-c", FOUND_BY_PYTHON], **how).stdout.split()
+    version = f"{(clone.root / 'VERSION').read_text().strip()}.dev0+unproved"
+    is_found = said == [str(room / "causal_judge" / "__init__.py"), version, "causal_judge.pytest_plugin"]
+    yield f"Python finds it there, with its version and its plugin: {said}", is_found
+    said_by("dpkg-deb", "--control", package, control)
+    for name in ("postinst", "prerm"):
+        yield f"{name} is the one that is here", (control / name).read_bytes() == (clone.root / "release" / name).read_bytes()
+        is_read = subprocess.run(["sh", "-n", control / name], check=False, stdin=subprocess.DEVNULL).returncode == 0
+        yield f"{name} is a script that runs", is_read and os.access(control / name, os.X_OK)
 
 
 def after_options(text):
@@ -248,6 +292,8 @@ def made(clone):
     yield "two builds give the same bytes", sums_of(clone, "one") and sums_of(clone, "one") == sums_of(clone, "another/below")
     deb, tarball, _ = sorted(clone.packages("one"), key=lambda path: [".deb", ".gz", ".whl"].index(path.suffix))
     yield from debian(deb)
+    yield from (case for package in clone.packages("one") for case in pages(clone, package))
+    yield from debian_python(clone, deb)
     yield from man_pages(clone.program, packed(tarball))
     yield from completions(clone, packed(tarball))
 

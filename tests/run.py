@@ -33,7 +33,13 @@ ARCHIVE = ROOT / "crates" / "causal_judge_library" / "out" / "libcausal_judge_li
 MOST_SECONDS, MOST_LONG_SECONDS = 900, 12 * 3600
 SHOWN_LINES, SHOWN_CHARACTERS = 40, 400
 RUNNING = set()
-INSTALLS = {"bash": "apt-get install bash", "cc": "apt-get install gcc", "ar": "apt-get install binutils"}
+INSTALLS = {
+    "bash": "apt-get install bash",
+    "cc": "apt-get install gcc",
+    "ar": "apt-get install binutils",
+    "java": "apt-get install default-jdk-headless",
+    "javac": "apt-get install default-jdk-headless",
+}
 
 
 class Given(NamedTuple):
@@ -85,10 +91,12 @@ def by_rattle(given):
 
 PARTS = (
     Part("tables", lambda given: given.of("tables")),
+    Part("file_operands", lambda given: given.of("file_operands")),
     Part("tables_by_rattle", lambda given: ["tests/tables.py", "--", str(by_rattle(given))], file=by_rattle, install="rt ci builds it"),
     Part("error_numbers", lambda given: ["tests/error_numbers.py"]),
     Part("documents", lambda given: given.of("documents", *given.longer()), ("bash",)),
     Part("python_package", lambda given: given.of("python_package", *given.longer())),
+    Part("java_recorder", lambda given: given.of("java_recorder"), ("java", "javac")),
     Part("live_stores", lambda given: given.of("live_stores", *given.longer())),
     Part("cluster", lambda given: given.of("cluster", *given.longer())),
     Part("recorded_stores", lambda given: given.of("recorded_stores", given.many(1_000, 20_000))),
@@ -107,6 +115,7 @@ PARTS = (
     Part("drawn", lambda given: given.of("drawn", "1", given.many(130, 2_000))),
     Part("minimal_cores", lambda given: given.of("minimal_cores", "1", given.many(24, 600))),
     Part("listed_faults", lambda given: given.of("listed_faults", "1", given.many(400, 10_000))),
+    Part("guarantees", lambda given: given.of("guarantees", "1", given.many(300, 6_000))),
     Part("pages", lambda given: given.of("pages", "1", given.many(30, 1_000), *given.longer())),
     Part("lines", lambda given: given.of("lines", "1", given.many(120, 1_000))),
     Part(
