@@ -40,7 +40,7 @@ import reading
 from command_words import CRITERIA, with_program
 from counting import end
 from patterns import AGAINST, MemoryHistory, is_pattern, shows
-from plain_events import cuts_of, is_harmless, is_said
+from plain_events import EXPLAINED_CUT, cuts_of, is_harmless, is_said
 from streams import is_unproved
 
 ROOT = pathlib.Path(__file__).resolve().parent.parent
@@ -168,7 +168,10 @@ def cuts_faults(program, data, found, lines, rng, seen):
     words = sum((part if type(part) is list else [part] for part in words), [])
     written, status, is_whole = cut_lines_due(program, found, every, expected)
     ended, text, errors = outcome(program, words, data)
-    wrong = errors_faults(found, errors) if is_whole else [f"{errors!r} after the end"] * bool(errors)
+    hint = EXPLAINED_CUT if status == 5 else ""
+    wrong = [] if errors.startswith(hint) else [f"on standard error {errors!r}, due {hint!r}"]
+    rest = errors.removeprefix(hint)
+    wrong += errors_faults(found, rest) if is_whole else [f"{rest!r} after the end"] * bool(rest)
     if (ended, text) != (status, written):
         wrong.append(f"status {ended} and {text!r}, due {status} and {written!r}")
     seen["a cut that is a no, and the whole a yes"] += " no " in written and " no " not in written.rstrip("\n").split("\n")[-1]
@@ -351,7 +354,6 @@ SINGLE = (
     (b" " * 999 + b"\n") * 70_000 + log_of(*written_by("a", "k", 1), *read_by("b", "k", 2)),
 )
 NO_COMMAND_LINE = (
-    ["judge", "--events"],
     ["judge", "--long", "--events", "--events"],
     ["judge", "--long", "--events=1"],
     ["judge", "--long", "--events", "--lines"],
@@ -362,7 +364,6 @@ NO_COMMAND_LINE = (
     ["judge", "--long", "--events", "--every", "0"],
     ["judge", "--long", "--events", "--every", "x"],
     ["judge", "--long", "--events", "--every", "1", "--every", "2"],
-    ["explain", "--events"],
     ["explain", "--long", "--events", "--certificates", "--json"],
     ["explain", "--long", "--events", "--every", "3"],
     ["explain", "--long", "--events", "--svg", "--json"],
@@ -373,7 +374,6 @@ NO_COMMAND_LINE = (
     ["events", "--long"],
     ["events", "--names", "--names"],
     ["events", "--names=1"],
-    ["events", "log"],
 )
 
 
@@ -449,7 +449,7 @@ def talked_faults(program):
     talk = Talk(program, ["--every", "2", "--expect", "cc,cm"])
     talk.say(log_of(*HEALTHY, *FAULTY))
     ended, due = talk.ends(False), "".join(f"{many} {MET}" for many in (2, 4, 6, 8)) + f"10 {STALE}"
-    yield [] if ended == (5, due, "") else [f"--every 2 --expect cc,cm: {ended}, while the log goes on"]
+    yield [] if ended == (5, due, EXPLAINED_CUT) else [f"--every 2 --expect cc,cm: {ended}, while the log goes on"]
     talk, text = Talk(program, ["--every", "3", "--expect", "ccv"]), log_of(*HEALTHY)
     for at in range(0, len(text), PIECE):
         talk.say(text[at : at + PIECE])

@@ -347,7 +347,6 @@ STATUSES = (
 NO_COMMAND_LINE = (
     ["judge", "--long", "--long"],
     ["judge", "--long=1"],
-    ["judge", "--long", "1"],
     ["judge", "--long", "--expect", "cc,cc"],
     ["judge", "--long", "--workers", "0"],
     ["check", "--long"],

@@ -299,9 +299,10 @@ def is_right_of_cuts(order, read, found):
         number, _, answer = (line or "").partition(" ")
         if number != str(many) or not is_report_on(read.events[:many], answer.replace("; ", "\n") + "\n"):
             return False
-        if status_of(order, [answer]):
-            is_last = many == cuts[-1] and plain_events.is_said(read, errors)
-            return written.endswith(f"{line}\n") and ((status, errors) == (status_of(order, [answer]), "") or is_last)
+        if unmet := status_of(order, [answer]):
+            hint = plain_events.EXPLAINED_CUT if status == unmet == 5 else ""
+            is_last = many == cuts[-1] and plain_events.is_said(read, errors.removeprefix(hint)) and errors.startswith(hint)
+            return written.endswith(f"{line}\n") and ((status, errors) == (unmet, hint) or is_last)
     return plain_events.is_said(read, errors) and status == int(read.refusal is not None)
 
 

@@ -26,6 +26,7 @@ MOST_LINE = 1_000_000
 BLANKS = b" \t\r"
 NOT_JSON, TOO_LONG, NOT_ALLOWED = 1, 9, 30
 NOT_WHOLE = "last line is not whole: passed over\n"
+EXPLAINED_CUT = "the last line begins with a number of events: head -n NUMBER FILE | causal_judge explain - says why\n"
 DISTURBING = ("Cc", "Cf", "Cs", "Zl", "Zp")
 WHOLE = re.compile(r"-?[1-9][0-9]*|0")
 NAMES, VALUES = range(2**64), range(-(2**63), 2**64)

@@ -18,7 +18,7 @@ if REPOSITORY_TESTS.is_dir():
     import plain_events
     import random_logs
 
-SAID = re.compile(r"  line (\d+): .*: (\w+)")
+SAID = re.compile(r"  line (\d+): .*: (\w+)(?:, breaks [a-z ]+)?")
 OTHERS = re.compile(r"\((?:written by line (\d+)|its initial value)\), after line (\d+)")
 needs_repository = unittest.skipUnless(REPOSITORY_TESTS.is_dir(), "skipped: the repository's tests are not beside the package")
 KINDS = ("ThinAirRead", "WriteCOInitRead", "WriteCORead")
