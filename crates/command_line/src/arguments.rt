@@ -1,7 +1,8 @@
 //! The options of commands, as plain data and as `clap` receives them.
 ghost use Rattle.std.specs.Prelude.{◌≡◌, ◌-◌, codes, false};
 ghost use Rattle.clap.specs.Words.{rule_of};
-ghost use Rattle.command_line.specs.CommandLine.{all, color, every, expect, files, flag, least_reads, number_option, output, store, why, workers};
+ghost use Rattle.command_line.specs.CommandLine.{all, color, every, expect, files, flag, least_reads};
+ghost use Rattle.command_line.specs.CommandLine.{number_option, output, store, why, workers};
 ghost use Rattle.command_line.specs.Steps.Arguments.{rule_of_argument};
 
 use crate::drive::MAX_SEALS;

@@ -1,7 +1,8 @@
 //! What the words of a command line order, and what the program says of other words.
 //!
 //! [`command_of`] gives what the words ask for ([`Asked`]), or the [`Usage`] that says why they ask for nothing. [`Order`], [`Page`] and
-//! [`LogOrder`] are what a [`Task`] may be, and [`next_file`] gives the files that the words name. It uses clap for faults and help, and replica, cert_check and workers for what options name.
+//! [`LogOrder`] are what a [`Task`] may be, and [`next_file`] gives the files that the words name. It uses clap for faults and help, and
+//! replica, cert_check and workers for what options name.
 //! How words are read may change: the contract says which give which task. No contract fixes the texts of faults and of help.
 #![tactic(auto)]
 

@@ -1,7 +1,8 @@
 //! The command line.
 ghost use Rattle.std.specs.Prelude.{◌≡◌, ◌⊎◌, [], IfErr, IfOk, MatchOption, MatchResult, map};
 ghost use Rattle.clap.specs.Words.{HasKind, fault_of, kind_of};
-ghost use Rattle.command_line.specs.CommandLine.{AsksForTopic, AsksNothing, IsCommandLine, IsFault, IsHelp, IsUsageFor, IsUsageOf, command_line};
+ghost use Rattle.command_line.specs.CommandLine.{AsksForTopic, AsksNothing, IsCommandLine, IsFault, IsHelp};
+ghost use Rattle.command_line.specs.CommandLine.{IsUsageFor, IsUsageOf, command_line};
 
 use crate::detail::Detail;
 use crate::drive::Drive;

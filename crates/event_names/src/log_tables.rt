@@ -28,8 +28,8 @@ pub struct CallNote {
 
 /// What is known of the operations of a log's history, and of its names.
 ///
-/// No contract restricts an answer: other names only make other texts. Names and notes are JSON texts with no line feed, in which no character
-/// disturbs a terminal. Each call that gives a text fails for want of memory alone.
+/// No contract restricts an answer: other names only make other texts. Names and notes are JSON texts with no line feed, in which no
+/// character disturbs a terminal. Each call that gives a text fails for want of memory alone.
 pub trait LogTables {
     /// The call that an operation of the history represents: none where the history has no such operation.
     fn stood_for(&self, op: OpId) -> Option<StoodFor>;

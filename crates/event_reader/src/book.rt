@@ -1,6 +1,7 @@
 //! The log that lines give.
 
-ghost use Rattle.std.specs.Prelude.{◌≡◌, ◌<◌, [], IfErr, IfOk, IfSome, OnOk, length, slice_get, string_bytes, codes, Some, None, if◌then◌else◌};
+ghost use Rattle.std.specs.Prelude.{◌≡◌, ◌<◌, [], IfErr, IfOk, IfSome, OnOk};
+ghost use Rattle.std.specs.Prelude.{length, slice_get, string_bytes, codes, Some, None, if◌then◌else◌};
 ghost use Rattle.event_reader.specs.Names.{same_name, text_name};
 ghost use Rattle.event_reader.specs.Logs.{IsPending, MayFollow, call_of, client_number, ending_of, key_number, no_log, value_number};
 ghost use Rattle.event_reader.specs.Logs.{with_call, with_client, with_ending, with_event, with_key, with_value};

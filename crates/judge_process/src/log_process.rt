@@ -57,9 +57,8 @@ pub(crate) fn report_followed<P: Eprint>(place: &Place<'_, P>, followed: &Follow
     followed.outcome.status()
 }
 
-/// Writes the lines of a log that had no answer, with what was told of it, and returns the exit status. If there is no memory for the
-/// lines, it returns the
-/// status for want of memory.
+/// Writes why a log has no answer, in numbers and in words, and returns the exit status. If there is no memory for these lines, it returns
+/// the status for want of memory.
 pub(crate) fn report_error<P: AllocGlobal + Eprint>(
     place: &Place<'_, P>,
     error: &LogError,

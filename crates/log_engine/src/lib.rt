@@ -1,7 +1,8 @@
 //! Answers to logs of events: the history of a log, judged, explained or written.
 //!
 //! It gives [`follow_log`], which carries out an order on a log, event by event as it is read, [`call_lines`], which gives the lines on
-//! which the calls of its operations begin, and [`LogError`], why a log has no answer. The engine gives the answers on a history; `events` and `event_reader` define which history a log has.
+//! which the calls of its operations begin, and [`LogError`], why a log has no answer. The engine gives the answers on a
+//! history; `events` and `event_reader` define which history a log has.
 #![tactic(auto)]
 
 mod answering;

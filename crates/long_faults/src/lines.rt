@@ -112,8 +112,8 @@ fn known_write(h: &LongHistory, op: OpId) -> Option<(u32, u64)> {
 /// The lines of the counts: one for each kind that occurs, then one for each guarantee that is broken, and then one for each session that
 /// has a fault, those with the most first, at most sixteen of them and how many more there are.
 ///
-/// `WriteCORead: 117 reads in 3 of 64 sessions`, `monotonic reads: broken by 117 reads`, `session 2: 90 reads`. Fails for want of memory alone. O(s log s) for s sessions that have
-/// a fault.
+/// `WriteCORead: 117 reads in 3 of 64 sessions`, `monotonic reads: broken by 117 reads`, `session 2: 90 reads`. Fails for want
+/// of memory alone. O(s log s) for s sessions that have a fault.
 pub fn count_lines<N: Names>(
     alloc: Global,
     names: &N,

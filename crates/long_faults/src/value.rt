@@ -4,7 +4,8 @@ ghost use Rattle.std.specs.Prelude.{◌≡◌, ◌∷◌, [], IfOk};
 ghost use Rattle.serde_json.specs.View.{view};
 ghost use Rattle.operations.specs.Reads.{worded};
 ghost use Rattle.wording.specs.Guarantees.{guarantee_name};
-ghost use Rattle.long_faults.specs.FaultsForm.{broken_form, count_form, counts_form, faults_form, guarantee_form, guarantees_form, name_form};
+ghost use Rattle.long_faults.specs.FaultsForm.{broken_form, count_form, counts_form, faults_form};
+ghost use Rattle.long_faults.specs.FaultsForm.{guarantee_form, guarantees_form, name_form};
 
 use crate::broken::{Breaks, Broken, GuaranteeCounts};
 use crate::counts::{FaultCounts, SessionFaults};

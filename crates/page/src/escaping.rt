@@ -16,8 +16,8 @@ pub enum Within {
 
 /// Appends a text to a page, escaped for what it stands in.
 ///
-/// A JSON text has `<` in its strings alone, and gets the escape of JSON strings there, so its meaning stays the same. In markup `<` and `&`
-/// get their entities, so that the element shows the text. What is appended has no `<`, so it begins no element and ends none:
+/// A JSON text has `<` in its strings alone, and gets the escape of JSON strings there, so its meaning stays the same. In markup `<` and
+/// `&` get their entities, so that the element shows the text. What is appended has no `<`, so it begins no element and ends none:
 /// `escaped_text_begins_no_markup` in [`laws`](crate::laws). Fails only when memory is refused. O(n) for n bytes.
 #[tactic(auto, using(crate::proofs::Escapes::escaped_more))]
 pub(crate) fn push_escaped(

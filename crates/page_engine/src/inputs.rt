@@ -5,7 +5,8 @@ ghost use Rattle.std.specs.Io.KnownBytes.{IsAtEnd};
 ghost use Rattle.engine.specs.Failure.{failure_status};
 ghost use Rattle.engine.specs.InputLengths.{CallsFor, FindsNoEndFor, most_bytes};
 ghost use Rattle.engine.specs.Running.{Fails, IsOutput, IsOutputError};
-ghost use Rattle.page_engine.specs.Writing.{IsPageOfInput, IsSaidOfInput, WritesPage, WritesPageOf, list_order, listing_order, picture_order, words_order};
+ghost use Rattle.page_engine.specs.Writing.{IsPageOfInput, IsSaidOfInput, WritesPage, WritesPageOf};
+ghost use Rattle.page_engine.specs.Writing.{list_order, listing_order, picture_order, words_order};
 
 use command_line::{Form, Length, ListForm, Listing, LongForm, Order};
 use engine::{MAX_READ_CALLS, RunError, answer_to, read_input_for, write_output};
