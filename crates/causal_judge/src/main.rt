@@ -2,7 +2,7 @@
 //! answer on standard output.
 #![tactic(auto)]
 
-use judge_process::Terminals;
+use app_process::Terminals;
 use std::io::IsTerminal;
 use std::process::ExitCode;
 
@@ -11,5 +11,5 @@ fn main(rt: HostRuntime) -> ExitCode {
         output: rt.stdout().is_terminal(),
         error: rt.stderr().is_terminal(),
     };
-    ExitCode::from(judge_process::status_of_process(&rt, terminals))
+    ExitCode::from(app_process::status_of_process(&rt, terminals))
 }

@@ -1,10 +1,10 @@
 -- A call tells what came of it.
 use Rattle.std.proofs.Common.{◌≤◌, ℕ, List, Some, length, inl, inr}
 use Rattle.std.specs.Prelude.{Result, Ok, Err, IfErr, IfOk, OnOk, String, string_bytes}
-use Rattle.command_line.specs.declared.order.Order.{Order}
-use Rattle.engine.specs.Running.{Fails, IsOutput}
-use Rattle.engine.specs.declared.failure.RunError.{RunError}
-use Rattle.engine.specs.declared.input.TheConstants.{MAX_INPUT_BYTES}
+use Rattle.app_command_line.specs.declared.order.Order.{Order}
+use Rattle.app_engine.specs.Running.{Fails, IsOutput}
+use Rattle.app_engine.specs.declared.failure.RunError.{RunError}
+use Rattle.app_engine.specs.declared.input.TheConstants.{MAX_INPUT_BYTES}
 use Rattle.causal_judge_library.specs.Calls.{Tells}
 use Rattle.causal_judge_library.specs.Steps.{TellsOf}
 

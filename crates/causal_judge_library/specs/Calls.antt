@@ -1,10 +1,10 @@
 -- What a call from C answers: a status, a text, and how many bytes the text has.
 use Rattle.std.specs.Prelude.{◌≡◌, ◌⊎◌, ◌≤◌, ◌<◌, ℕ, List, ◌++◌, codes, drop, length, Some}
-use Rattle.command_line.specs.declared.order.Order.{Order}
-use Rattle.engine.specs.Failure.{failure_status, line_for}
-use Rattle.engine.specs.Running.{Fails, IsOutput}
-use Rattle.engine.specs.declared.failure.RunError.{RunError}
-use Rattle.engine.specs.declared.input.TheConstants.{MAX_INPUT_BYTES}
+use Rattle.app_command_line.specs.declared.order.Order.{Order}
+use Rattle.app_engine.specs.Failure.{failure_status, line_for}
+use Rattle.app_engine.specs.Running.{Fails, IsOutput}
+use Rattle.app_engine.specs.declared.failure.RunError.{RunError}
+use Rattle.app_engine.specs.declared.input.TheConstants.{MAX_INPUT_BYTES}
 use Rattle.causal_judge_library.specs.declared.TheConstants.{TOO_SMALL, NO_MEMORY, REFUSED, ANSWERED}
 
 -- the text stands first in the buffer, and behind it what stood there before, where it has room in it; else the buffer is as it

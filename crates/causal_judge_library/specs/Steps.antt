@@ -1,7 +1,7 @@
 -- What the steps of a call tell.
 use Rattle.std.specs.Prelude.{◌≡◌, ◌⊎◌, ℕ, List, Result, Ok, Err, String, string_bytes}
-use Rattle.engine.specs.Failure.{failure_status}
-use Rattle.engine.specs.declared.failure.RunError.{RunError}
+use Rattle.app_engine.specs.Failure.{failure_status}
+use Rattle.app_engine.specs.declared.failure.RunError.{RunError}
 use Rattle.causal_judge_library.specs.Calls.{IsTold, IsUntold, refusal_text}
 use Rattle.causal_judge_library.specs.declared.TheConstants.{REFUSED, ANSWERED}
 

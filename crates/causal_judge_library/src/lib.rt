@@ -8,13 +8,13 @@ mod telling;
 #[cfg(test)]
 mod tests;
 
-ghost use Rattle.command_line.specs.declared.form.Form.TheVariants.{Json};
-ghost use Rattle.command_line.specs.declared.length.Length.TheVariants.{Limited};
-ghost use Rattle.engine.specs.Alone.{judging_alone};
+ghost use Rattle.app_command_line.specs.declared.form.Form.TheVariants.{Json};
+ghost use Rattle.app_command_line.specs.declared.length.Length.TheVariants.{Limited};
+ghost use Rattle.app_engine.specs.Alone.{judging_alone};
 ghost use Rattle.causal_judge_library.specs.Calls.{Tells};
 
 use crate::telling::tell;
-use engine::Order;
+use app_engine::Order;
 use std::alloc::Global;
 
 /// The status of a call whose answer is in its buffer.
@@ -44,7 +44,7 @@ pub extern "C" fn causal_judge_judge(
 ) -> u8
     ensures { Tells (Order.Judge judging_alone) input.now answer.old answer.new needed.new result }
 {
-    tell(alloc, engine::judge_alone(alloc, input), answer, needed)
+    tell(alloc, app_engine::judge_alone(alloc, input), answer, needed)
 }
 
 /// Checks the certificate in the input against the history in it, as the program's `check` does.
@@ -60,7 +60,7 @@ pub extern "C" fn causal_judge_check(
 ) -> u8
     ensures { Tells (Order.Check 1) input.now answer.old answer.new needed.new result }
 {
-    tell(alloc, engine::check_alone(alloc, input), answer, needed)
+    tell(alloc, app_engine::check_alone(alloc, input), answer, needed)
 }
 
 /// Says why each criterion is met or not met by the history in the input, or why that is unknown, as the program's
@@ -77,7 +77,12 @@ pub extern "C" fn causal_judge_explain(
 ) -> u8
     ensures { Tells (Order.Explain Json) input.now answer.old answer.new needed.new result }
 {
-    tell(alloc, engine::explain_alone(alloc, input), answer, needed)
+    tell(
+        alloc,
+        app_engine::explain_alone(alloc, input),
+        answer,
+        needed,
+    )
 }
 
 /// Checks that the pattern in the input shows that the history in it does not meet a criterion, as the program's `refute` does.
@@ -93,5 +98,10 @@ pub extern "C" fn causal_judge_refute(
 ) -> u8
     ensures { Tells (Order.Refute Limited) input.now answer.old answer.new needed.new result }
 {
-    tell(alloc, engine::refute_alone(alloc, input), answer, needed)
+    tell(
+        alloc,
+        app_engine::refute_alone(alloc, input),
+        answer,
+        needed,
+    )
 }

@@ -5,7 +5,7 @@ ghost use Rattle.causal_judge_library.specs.Calls.{IsTold, refusal_text};
 ghost use Rattle.causal_judge_library.specs.Steps.{TellsOf, TellsFailure};
 
 use crate::{ANSWERED, NO_MEMORY, REFUSED, TOO_SMALL};
-use engine::{RunError, fault_line, status_of};
+use app_engine::{RunError, fault_line, status_of};
 use std::alloc::{AllocError, Global};
 
 /// Puts the outcome of a call into the buffer, and returns the call's status.

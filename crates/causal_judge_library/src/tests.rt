@@ -1,9 +1,9 @@
 //! What the calls say of some inputs, and what their buffers have then.
 
 use crate::{causal_judge_check, causal_judge_explain, causal_judge_judge, causal_judge_refute};
-use expectations::expect_text;
 use std::alloc::{AllocError, Global};
 use std::test::Fail;
+use test_expectations::expect_text;
 
 // A call of the library.
 #[derive(Clone, Copy)]

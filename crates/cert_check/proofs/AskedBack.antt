@@ -1,10 +1,10 @@
 -- Known returns of a session that are asked for from the end of a schedule back.
 use Rattle.std.proofs.Common.{◌≡◌, ℕ, ◌+◌, ◌<◌, ◌≤◌, ⊎_elim, List, length, take, subst, arith}
 use Rattle.std.proofs.lemmas.Bool.{cases_lt}
-use Rattle.history.specs.declared.op_id.OpId.{OpId}
-use Rattle.history.specs.History.{HistoryValue}
-use Rattle.causal_order.specs.Orders.{Ops, StandsAt, program_past}
-use Rattle.causal_order.specs.Vectors.{Counts, IsVectorOk}
+use Rattle.model_history.specs.declared.op_id.OpId.{OpId}
+use Rattle.model_history.specs.History.{HistoryValue}
+use Rattle.order_causal.specs.Orders.{Ops, StandsAt, program_past}
+use Rattle.order_causal.specs.Vectors.{Counts, IsVectorOk}
 use Rattle.cert_check.specs.Schedules.{named, IsSchedule}
 use Rattle.cert_check.specs.Steps.Replays.{AreAnswered, IsAnsweredAfter, IsAnsweredAt}
 use Rattle.cert_check.proofs.SchedulePieces.{own_kept}

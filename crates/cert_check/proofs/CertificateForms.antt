@@ -4,11 +4,11 @@ use Rattle.std.specs.Prelude.{◌≢◌}
 use Rattle.std.proofs.lemmas.List.{length-map}
 use Rattle.std.proofs.lemmas.Option.{same_Some}
 use Rattle.serde_json.specs.Data.{Data}
-use Rattle.operations.specs.Json.{elements, whole_number}
-use Rattle.operations.specs.Laws.Json.{elements-list}
-use Rattle.operations.specs.Reads.{number_form, list_form, worded}
-use Rattle.operations.proofs.ReadForms.{one_word}
-use Rattle.causal_order.specs.Vectors.{ByOperation}
+use Rattle.json_histories.specs.Json.{elements, whole_number}
+use Rattle.json_histories.specs.Laws.Json.{elements-list}
+use Rattle.json_histories.specs.Reads.{number_form, list_form, worded}
+use Rattle.json_histories.proofs.ReadForms.{one_word}
+use Rattle.order_causal.specs.Vectors.{ByOperation}
 use Rattle.cert_check.specs.declared.criterion.Criterion.{Criterion}
 use Rattle.cert_check.specs.declared.criterion.Criterion.TheVariants as criteria
 use Rattle.cert_check.specs.declared.certificate.Certificate.{Certificate}

@@ -1,11 +1,11 @@
 -- A history that meets a criterion has a certificate of it.
 use Rattle.std.proofs.Common.{ℕ, ◌<◌, ◌≤◌, ⊎_elim, List, [], length, filter, arith, refl, sym, subst}
 use Rattle.std.proofs.lemmas.Bool.{cases_lt}
-use Rattle.history.specs.declared.op_id.OpId.{OpId}
-use Rattle.history.specs.History.{HistoryValue, IsOp, session}
-use Rattle.causal_order.proofs.EachOperation.{by_operation, by_operation-one_each, list_of-by_operation}
-use Rattle.causal_order.specs.Orders.{Ops, Order, only, program_past, past, IsLinearization}
-use Rattle.causal_order.specs.Vectors.{list_of}
+use Rattle.model_history.specs.declared.op_id.OpId.{OpId}
+use Rattle.model_history.specs.History.{HistoryValue, IsOp, session}
+use Rattle.order_causal.proofs.EachOperation.{by_operation, by_operation-one_each, list_of-by_operation}
+use Rattle.order_causal.specs.Orders.{Ops, Order, only, program_past, past, IsLinearization}
+use Rattle.order_causal.specs.Vectors.{list_of}
 use Rattle.cert_check.specs.declared.criterion.Criterion.{Criterion}
 use Rattle.cert_check.specs.declared.criterion.Criterion.TheVariants as criteria
 use Rattle.cert_check.specs.declared.certificate.Certificate.{Certificate}

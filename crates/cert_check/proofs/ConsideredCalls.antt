@@ -6,9 +6,9 @@ use Rattle.std.proofs.lemmas.Bool.{cases_Bool, cond-true, cond-false}
 use Rattle.std.proofs.lemmas.List.{take-append-drop, drop_more, reverse-append}
 use Rattle.std.proofs.lemmas.List.Elements.{filter-append, filter_map-append}
 use Rattle.std.proofs.lemmas.Option.{same_Some, slice_get_within, get_or_from_slice_get}
-use Rattle.history.specs.declared.op_id.OpId.{OpId}
-use Rattle.history.specs.History.{HistoryValue, calls, entry}
-use Rattle.causal_order.specs.Vectors.{Counts}
+use Rattle.model_history.specs.declared.op_id.OpId.{OpId}
+use Rattle.model_history.specs.History.{HistoryValue, calls, entry}
+use Rattle.order_causal.specs.Vectors.{Counts}
 use Rattle.cert_check.specs.Certificates.{counted}
 use Rattle.cert_check.specs.Steps.Replays.{considered, IsAnsweredBy, IsCallOf}
 

@@ -3,9 +3,9 @@ use Rattle.std.proofs.Common.{◌≡◌, ℕ, ◌<◌, ◌≤◌, List, ⊎_elim
 use Rattle.std.specs.Prelude.{IsTrue, filter, slice_get, ◌==◌}
 use Rattle.std.proofs.lemmas.Bool.{and_parts, or_cases}
 use Rattle.std.proofs.lemmas.Option.{same_Some}
-use Rattle.history.specs.declared.op_id.OpId.{OpId}
-use Rattle.history.specs.History.{HistoryValue, IsOp, session}
-use Rattle.causal_order.specs.Orders.{Ops, Order, only, past, StandsAt, IsLinearization}
+use Rattle.model_history.specs.declared.op_id.OpId.{OpId}
+use Rattle.model_history.specs.History.{HistoryValue, IsOp, session}
+use Rattle.order_causal.specs.Orders.{Ops, Order, only, past, StandsAt, IsLinearization}
 use Rattle.cert_check.specs.Criteria.{every, IsCausalOrder}
 use Rattle.cert_check.proofs.FilteredLaws.{filter_keeps, filter_from, filter_in_order}
 

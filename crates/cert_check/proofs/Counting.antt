@@ -5,11 +5,11 @@ use Rattle.std.specs.List.{range_with_len}
 use Rattle.std.proofs.lemmas.Bool.{cases_eq, cases_lt, cases_Bool, or_cases, or_right}
 use Rattle.std.proofs.lemmas.List.{get_or_past}
 use Rattle.std.proofs.lemmas.List.FromFn.{length-map-range_with_len, get_or-map-range_with_len}
-use Rattle.history.specs.declared.op_id.OpId.{OpId}
-use Rattle.history.specs.History.{HistoryValue, IsOp, session}
-use Rattle.causal_order.specs.Orders.{op, Order, only, past}
-use Rattle.causal_order.proofs.EachOperation.{by_operation, by_operation-one_each, list_of-by_operation}
-use Rattle.causal_order.specs.Vectors.{Counts, count, IsCounted, AreVectorsOf}
+use Rattle.model_history.specs.declared.op_id.OpId.{OpId}
+use Rattle.model_history.specs.History.{HistoryValue, IsOp, session}
+use Rattle.order_causal.specs.Orders.{op, Order, only, past}
+use Rattle.order_causal.proofs.EachOperation.{by_operation, by_operation-one_each, list_of-by_operation}
+use Rattle.order_causal.specs.Vectors.{Counts, count, IsCounted, AreVectorsOf}
 use Rattle.cert_check.specs.Criteria.{IsCausalOrder}
 use Rattle.cert_check.proofs.ConvergentLaws.{only-same}
 

@@ -5,14 +5,14 @@ use Rattle.std.proofs.lemmas.Bool.{cases_eq, cases_lt, cond-true}
 use Rattle.std.proofs.lemmas.List.{take-append-drop, drop_more, take_at}
 use Rattle.std.proofs.lemmas.List.Elements.{filter-append}
 use Rattle.std.proofs.lemmas.Option.{slice_get_within, get_or_from_slice_get}
-use Rattle.history.specs.declared.op_id.OpId.{OpId}
-use Rattle.history.specs.History.{HistoryValue, calls, entry, session}
-use Rattle.causal_order.specs.Orders.{op, StandsAt}
-use Rattle.causal_order.proofs.OrdersLaws.{same_op}
-use Rattle.causal_order.specs.Vectors.{Counts, count, IsCounted, IsVectorOk}
+use Rattle.model_history.specs.declared.op_id.OpId.{OpId}
+use Rattle.model_history.specs.History.{HistoryValue, calls, entry, session}
+use Rattle.order_causal.specs.Orders.{op, StandsAt}
+use Rattle.order_causal.proofs.OrdersLaws.{same_op}
+use Rattle.order_causal.specs.Vectors.{Counts, count, IsCounted, IsVectorOk}
 use Rattle.cert_check.specs.Certificates.{counted, IsArbitratedPiece}
 use Rattle.cert_check.specs.Schedules.{named, StandsBefore}
-use Rattle.causal_order.specs.Schedules.{placed}
+use Rattle.order_causal.specs.Schedules.{placed}
 use Rattle.cert_check.specs.Steps.Namings.{AreCountsAt}
 use Rattle.cert_check.specs.Steps.Replays.{IsAnsweredAfter, NamesOperations}
 use Rattle.cert_check.proofs.ConvergentLaws.{only-same}

@@ -4,10 +4,10 @@ use Rattle.std.specs.Prelude.{◌≢◌, None, Some}
 use Rattle.std.proofs.lemmas.List.Elements.{All-nil, All-push, All-get_or}
 use Rattle.std.proofs.lemmas.Option.{slice_get_within, get_or_from_slice_get}
 use Rattle.serde_json.specs.Data.{Data}
-use Rattle.operations.specs.Json.{elements}
-use Rattle.operations.specs.Laws.Json.{elements-list}
-use Rattle.operations.specs.Reads.{list_form}
-use Rattle.operations.proofs.ReadForms.{element_form, forms-more, list-read}
+use Rattle.json_histories.specs.Json.{elements}
+use Rattle.json_histories.specs.Laws.Json.{elements-list}
+use Rattle.json_histories.specs.Reads.{list_form}
+use Rattle.json_histories.proofs.ReadForms.{element_form, forms-more, list-read}
 
 module _ {V A : Type 0} (view : V → Data) (fits : A → Type 0) (form : A → Data) (values : List V) where
   -- the values before a place are the forms of these, which are in range

@@ -5,11 +5,11 @@ use Rattle.std.proofs.lemmas.Bool.{cases_lt}
 use Rattle.std.proofs.lemmas.List.{take_more}
 use Rattle.std.proofs.lemmas.List.Sums.{sum_by-append}
 use Rattle.std.proofs.lemmas.Option.{same_Some, slice_get_within, slice_get-get_or, get_or_from_slice_get}
-use Rattle.history.specs.declared.op_id.OpId.{OpId}
-use Rattle.causal_order.proofs.Placed.{placed-up, places}
-use Rattle.causal_order.specs.Orders.{op, StandsAt}
+use Rattle.model_history.specs.declared.op_id.OpId.{OpId}
+use Rattle.order_causal.proofs.Placed.{placed-up, places}
+use Rattle.order_causal.specs.Orders.{op, StandsAt}
 use Rattle.cert_check.specs.Schedules.{named_after, named, StandsBefore}
-use Rattle.causal_order.specs.Schedules.{placed}
+use Rattle.order_causal.specs.Schedules.{placed}
 
 -- what stands in the front of a list stands there in the whole list
 pub slice_get-from_take : {X : Type 0} (xs : List X) (k j : ℕ) (x : X) → slice_get (take k xs) j ≡ Some x → (j < k) × (slice_get xs j ≡ Some x)

@@ -4,15 +4,15 @@ use Rattle.std.specs.Prelude.{Some, slice_get}
 use Rattle.std.proofs.lemmas.Bool.{cases_eq, cases_lt}
 use Rattle.std.proofs.lemmas.List.{length-set, get_or_past}
 use Rattle.std.proofs.lemmas.Option.{same_Some, slice_get-get_or}
-use Rattle.history.specs.declared.op_id.OpId.{OpId}
-use Rattle.history.specs.History.{HistoryValue, IsOp}
-use Rattle.causal_order.proofs.Fronts.{take-stands, take-from}
-use Rattle.causal_order.proofs.Placed.{placed-up}
-use Rattle.causal_order.specs.Orders.{op, StandsAt}
-use Rattle.causal_order.proofs.OrdersLaws.{same_op, session-of_history}
-use Rattle.causal_order.specs.Vectors.{Counts, count, IsCounted}
+use Rattle.model_history.specs.declared.op_id.OpId.{OpId}
+use Rattle.model_history.specs.History.{HistoryValue, IsOp}
+use Rattle.order_causal.proofs.Fronts.{take-stands, take-from}
+use Rattle.order_causal.proofs.Placed.{placed-up}
+use Rattle.order_causal.specs.Orders.{op, StandsAt}
+use Rattle.order_causal.proofs.OrdersLaws.{same_op, session-of_history}
+use Rattle.order_causal.specs.Vectors.{Counts, count, IsCounted}
 use Rattle.cert_check.specs.Schedules.{named, StandsBefore}
-use Rattle.causal_order.specs.Schedules.{placed}
+use Rattle.order_causal.specs.Schedules.{placed}
 use Rattle.cert_check.specs.Steps.Namings.{AreCountsAt, AreNamedWell, IsNamedWell}
 use Rattle.cert_check.proofs.Named.{placed-next, placed-one, placed-none, named_at, named_is, take_next, take-named, counted_from_before, before_from_counted}
 

@@ -4,13 +4,13 @@ use Rattle.std.proofs.Common.{◌≡◌, ◌≢◌, ℕ, zero, suc, ◌+◌, ◌
 use Rattle.std.specs.Prelude.{Some, slice_get}
 use Rattle.std.proofs.lemmas.Bool.{cases_eq, cases_lt}
 use Rattle.std.proofs.lemmas.List.{get_or_append_left, get_or_past, get_or_push, length_push}
-use Rattle.history.specs.declared.op_id.OpId.{OpId}
-use Rattle.history.specs.History.{HistoryValue, IsOp}
-use Rattle.causal_order.proofs.Placed.{placed-up}
-use Rattle.causal_order.specs.Orders.{op, StandsAt}
-use Rattle.causal_order.proofs.OrdersLaws.{same_op}
-use Rattle.causal_order.specs.Vectors.{Counts, count, list_of, IsCounted}
-use Rattle.causal_order.specs.Schedules.{placed}
+use Rattle.model_history.specs.declared.op_id.OpId.{OpId}
+use Rattle.model_history.specs.History.{HistoryValue, IsOp}
+use Rattle.order_causal.proofs.Placed.{placed-up}
+use Rattle.order_causal.specs.Orders.{op, StandsAt}
+use Rattle.order_causal.proofs.OrdersLaws.{same_op}
+use Rattle.order_causal.specs.Vectors.{Counts, count, list_of, IsCounted}
+use Rattle.order_causal.specs.Schedules.{placed}
 use Rattle.cert_check.specs.declared.need.Need.{Need}
 use Rattle.cert_check.specs.declared.need.Need.TheVariants.{Nothing, After, Everything}
 use Rattle.cert_check.specs.Schedules.{named, StandsBefore}

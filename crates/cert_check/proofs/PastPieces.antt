@@ -3,13 +3,13 @@ use Rattle.std.proofs.Common.{◌≡◌, ◌≢◌, ℕ, ◌+◌, ◌<◌, ◌�
 use Rattle.std.specs.Prelude.{IsTrue}
 use Rattle.std.specs.Cmp.{both_ways}
 use Rattle.std.proofs.lemmas.Bool.{cases_lt, or_cases, or_left, or_right}
-use Rattle.history.specs.declared.op_id.OpId.{OpId}
-use Rattle.history.specs.History.{HistoryValue, IsOp, session}
-use Rattle.causal_order.specs.Orders.{op, Ops, Order, only, past, IsLinearization}
-use Rattle.causal_order.specs.Vectors.{Counts, count, IsCounted, IsWithin, IsVectorOk}
+use Rattle.model_history.specs.declared.op_id.OpId.{OpId}
+use Rattle.model_history.specs.History.{HistoryValue, IsOp, session}
+use Rattle.order_causal.specs.Orders.{op, Ops, Order, only, past, IsLinearization}
+use Rattle.order_causal.specs.Vectors.{Counts, count, IsCounted, IsWithin, IsVectorOk}
 use Rattle.cert_check.specs.Criteria.{every, IsCausalOrder, Explains}
 use Rattle.cert_check.specs.Schedules.{named, IsSchedule}
-use Rattle.causal_order.specs.Schedules.{placed}
+use Rattle.order_causal.specs.Schedules.{placed}
 use Rattle.cert_check.specs.Certificates.{counted, IsArbitratedPiece}
 use Rattle.cert_check.proofs.ConvergentLaws.{only-same}
 use Rattle.cert_check.proofs.Counting.{past-of_history, past-closed}

@@ -3,11 +3,11 @@ use Rattle.std.proofs.Common.{◌≡◌, ℕ, zero, suc, ◌+◌, ◌-◌, ◌<�
 use Rattle.std.specs.Prelude.{IsTrue}
 use Rattle.std.specs.Cmp.{both_ways}
 use Rattle.std.proofs.lemmas.Bool.{and_parts, and_from, or_cases, or_left, or_right, cases_Bool, cases_eq, false_from_ne_true, not_from_true, not_from_false, true≢false}
-use Rattle.history.specs.declared.op_id.OpId.{OpId}
-use Rattle.history.specs.History.{HistoryValue, IsOp, session}
-use Rattle.causal_order.specs.Orders.{op, only, past}
-use Rattle.causal_order.proofs.OrdersLaws.{same_op}
-use Rattle.causal_order.specs.Vectors.{Counts, count, IsCounted, IsWithin, IsVectorOk}
+use Rattle.model_history.specs.declared.op_id.OpId.{OpId}
+use Rattle.model_history.specs.History.{HistoryValue, IsOp, session}
+use Rattle.order_causal.specs.Orders.{op, only, past}
+use Rattle.order_causal.proofs.OrdersLaws.{same_op}
+use Rattle.order_causal.specs.Vectors.{Counts, count, IsCounted, IsWithin, IsVectorOk}
 use Rattle.cert_check.specs.Criteria.{every, IsCausalOrder}
 use Rattle.cert_check.specs.Certificates.{counted}
 use Rattle.cert_check.specs.Witnesses.{counted_before}

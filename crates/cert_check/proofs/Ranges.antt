@@ -2,17 +2,17 @@
 use Rattle.std.proofs.Common.{ℕ, ◌<◌, ◌≤◌, ◌^◌, Bool, List, [], All, length, get_or, take, arith}
 use Rattle.std.proofs.lemmas.List.Elements.{All-from_get_or}
 use Rattle.std.proofs.lemmas.Option.{slice_get-get_or}
-use Rattle.history.specs.declared.op_id.OpId.{OpId}
-use Rattle.history.specs.History.{HistoryValue, IsOp, IsHistory, session}
-use Rattle.causal_order.specs.Orders.{op, StandsAt}
-use Rattle.causal_order.specs.Vectors.{ByOperation, Counts, count, list_of, HasOneEach}
-use Rattle.causal_order.proofs.OrdersLaws.{session-of_history}
+use Rattle.model_history.specs.declared.op_id.OpId.{OpId}
+use Rattle.model_history.specs.History.{HistoryValue, IsOp, IsHistory, session}
+use Rattle.order_causal.specs.Orders.{op, StandsAt}
+use Rattle.order_causal.specs.Vectors.{ByOperation, Counts, count, list_of, HasOneEach}
+use Rattle.order_causal.proofs.OrdersLaws.{session-of_history}
 use Rattle.cert_check.specs.declared.certificate.Certificate.{Certificate}
 use Rattle.cert_check.specs.declared.certificate.Certificate.TheVariants.{Cc, Cm, Ccv}
 use Rattle.cert_check.specs.CertificateForm.{AreBelow, IsCertificate}
 use Rattle.cert_check.specs.Certificates.{HasShapeOf, IsExplainedThroughout}
 use Rattle.cert_check.specs.Schedules.{named}
-use Rattle.causal_order.specs.Schedules.{placed}
+use Rattle.order_causal.specs.Schedules.{placed}
 use Rattle.cert_check.proofs.Named.{named_at, named_within}
 
 -- counts that are at most the lengths of sessions

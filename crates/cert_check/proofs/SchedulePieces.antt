@@ -3,11 +3,11 @@ use Rattle.std.proofs.Common.{◌≡◌, ◌==◌, ℕ, zero, suc, ◌<◌, ◌�
 use Rattle.std.specs.Prelude.{IsTrue, Some, filter, nat_le, slice_get}
 use Rattle.std.proofs.lemmas.Bool.{and_parts, and_from, le-leb, cond-true}
 use Rattle.std.proofs.lemmas.Option.{slice_get_within}
-use Rattle.history.specs.declared.op_id.OpId.{OpId}
-use Rattle.history.specs.History.{HistoryValue, calls, entry}
-use Rattle.causal_order.specs.Orders.{Ops, StandsAt, only, program_past}
-use Rattle.causal_order.specs.Vectors.{Counts, count, list_of, IsVectorOk}
-use Rattle.causal_order.specs.Schedules.{placed}
+use Rattle.model_history.specs.declared.op_id.OpId.{OpId}
+use Rattle.model_history.specs.History.{HistoryValue, calls, entry}
+use Rattle.order_causal.specs.Orders.{Ops, StandsAt, only, program_past}
+use Rattle.order_causal.specs.Vectors.{Counts, count, list_of, IsVectorOk}
+use Rattle.order_causal.specs.Schedules.{placed}
 use Rattle.cert_check.specs.Certificates.{counted, IsScheduledPiece}
 use Rattle.cert_check.specs.Criteria.{Explains}
 use Rattle.cert_check.specs.Schedules.{named, IsSchedule}

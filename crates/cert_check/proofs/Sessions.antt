@@ -4,12 +4,12 @@ use Rattle.std.specs.Prelude.{Some, option_map, slice_get}
 use Rattle.std.proofs.lemmas.Bool.{cases_eq, cases_lt}
 use Rattle.std.proofs.lemmas.List.{length-map}
 use Rattle.std.proofs.lemmas.Option.{same_Some, slice_get-map, slice_get-get_or, get_or_from_slice_get}
-use Rattle.history.specs.declared.op_id.OpId.{OpId}
-use Rattle.history.specs.History.{Precedes}
-use Rattle.causal_order.specs.Orders.{op, StandsAt}
-use Rattle.causal_order.proofs.OrdersLaws.{same_op}
+use Rattle.model_history.specs.declared.op_id.OpId.{OpId}
+use Rattle.model_history.specs.History.{Precedes}
+use Rattle.order_causal.specs.Orders.{op, StandsAt}
+use Rattle.order_causal.proofs.OrdersLaws.{same_op}
 use Rattle.cert_check.specs.Schedules.{named, StandsBefore}
-use Rattle.causal_order.specs.Schedules.{placed}
+use Rattle.order_causal.specs.Schedules.{placed}
 use Rattle.cert_check.proofs.Named.{placed-one, placed-none, placed-next, length-named, named_at}
 
 -- the session numbers of a list of operations

@@ -4,12 +4,12 @@ use Rattle.std.specs.Prelude.{All, Some, slice_get}
 use Rattle.std.proofs.lemmas.Bool.{cases_lt}
 use Rattle.std.proofs.lemmas.List.{get_or_past}
 use Rattle.std.proofs.lemmas.Option.{slice_get-get_or, slice_get_within, get_or_from_slice_get}
-use Rattle.history.specs.History.{HistoryValue, session}
-use Rattle.causal_order.proofs.Placed.{placed-up}
-use Rattle.causal_order.specs.Orders.{op}
-use Rattle.causal_order.proofs.OrdersLaws.{session-of_history}
-use Rattle.causal_order.specs.Schedules.{placed}
-use Rattle.causal_order.specs.Vectors.{AreVectorsOf}
+use Rattle.model_history.specs.History.{HistoryValue, session}
+use Rattle.order_causal.proofs.Placed.{placed-up}
+use Rattle.order_causal.specs.Orders.{op}
+use Rattle.order_causal.proofs.OrdersLaws.{session-of_history}
+use Rattle.order_causal.specs.Schedules.{placed}
+use Rattle.order_causal.specs.Vectors.{AreVectorsOf}
 use Rattle.cert_check.specs.declared.certificate.Certificate.{Certificate}
 use Rattle.cert_check.specs.declared.certificate.Certificate.TheVariants.{Cc, Cm, Ccv}
 use Rattle.cert_check.specs.Certificates.{vectors_of, HasShapeOf}

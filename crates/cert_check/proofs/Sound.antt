@@ -2,15 +2,15 @@
 -- met.
 use Rattle.std.proofs.Common.{◌≡◌, ◌≢◌, ℕ, List, length, arith, sym, subst}
 use Rattle.std.specs.Prelude.{filter}
-use Rattle.history.specs.declared.op_id.OpId.{OpId}
-use Rattle.history.specs.History.{HistoryValue, IsOp, session}
-use Rattle.causal_order.specs.Orders.{only, past, StandsAt, IsLinearization}
-use Rattle.causal_order.specs.Vectors.{Counts, list_of, IsCounted, IsVectorOk}
+use Rattle.model_history.specs.declared.op_id.OpId.{OpId}
+use Rattle.model_history.specs.History.{HistoryValue, IsOp, session}
+use Rattle.order_causal.specs.Orders.{only, past, StandsAt, IsLinearization}
+use Rattle.order_causal.specs.Vectors.{Counts, list_of, IsCounted, IsVectorOk}
 use Rattle.cert_check.specs.declared.certificate.Certificate.{Certificate}
 use Rattle.cert_check.specs.declared.certificate.Certificate.TheVariants.{Cc, Cm, Ccv}
 use Rattle.cert_check.specs.Criteria.{every, Explains, Meets}
 use Rattle.cert_check.specs.Schedules.{named, StandsBefore, IsSchedule}
-use Rattle.causal_order.specs.Schedules.{placed}
+use Rattle.order_causal.specs.Schedules.{placed}
 use Rattle.cert_check.specs.Certificates.{counted, criterion_of, HasShapeOf, IsExplainedThroughout}
 use Rattle.cert_check.specs.Witnesses.{counted_before, IsWitness}
 use Rattle.cert_check.proofs.ConvergentLaws.{cut_is_linearization}

@@ -1,10 +1,10 @@
 -- The JSON form of a certificate: `["cc", vectors, schedules]`, `["cm", vectors, schedules]` or `["ccv", vectors, list]`
 -- (this project's profile).
 use Rattle.std.specs.Prelude.{◌≡◌, ⊤, ℕ, ◌<◌, ◌^◌, [], ◌∷◌, All, Result, MatchResult}
-use Rattle.history.specs.declared.limits.TheConstants.{MAX_SESSIONS}
+use Rattle.model_history.specs.declared.limits.TheConstants.{MAX_SESSIONS}
 use Rattle.serde_json.specs.Data.{Data}
-use Rattle.operations.specs.Reads.{number_form, list_form, worded}
-use Rattle.causal_order.specs.Vectors.{ByOperation}
+use Rattle.json_histories.specs.Reads.{number_form, list_form, worded}
+use Rattle.order_causal.specs.Vectors.{ByOperation}
 use Rattle.cert_check.specs.declared.cert_error.CertError.{CertError}
 use Rattle.cert_check.specs.declared.cert_error.CertError.TheVariants.{Memory, BadCertificate}
 use Rattle.cert_check.specs.declared.criterion.Criterion.TheVariants as criteria

@@ -1,17 +1,17 @@
 -- Certificates: for each operation of a history a vector of its past, and schedules or one list that explain the known
 -- returns, as a criterion demands (this project's profile).
 use Rattle.std.specs.Prelude.{◌≡◌, ◌≢◌, ℕ, List, Option, Some, filter, length, nat_lt}
-use Rattle.history.specs.declared.op_id.OpId.{OpId}
-use Rattle.history.specs.History.{HistoryValue, IsOp, session}
-use Rattle.causal_order.specs.Orders.{Ops, IsEarlier, StandsAt, only, program_past}
-use Rattle.causal_order.specs.Vectors.{Counts, list_of, count, HasOneEach, AreVectorsOf, IsCounted, IsVectorOk}
+use Rattle.model_history.specs.declared.op_id.OpId.{OpId}
+use Rattle.model_history.specs.History.{HistoryValue, IsOp, session}
+use Rattle.order_causal.specs.Orders.{Ops, IsEarlier, StandsAt, only, program_past}
+use Rattle.order_causal.specs.Vectors.{Counts, list_of, count, HasOneEach, AreVectorsOf, IsCounted, IsVectorOk}
 use Rattle.cert_check.specs.declared.criterion.Criterion.{Criterion}
 use Rattle.cert_check.specs.declared.criterion.Criterion.TheVariants as criteria
 use Rattle.cert_check.specs.declared.certificate.Certificate.{Certificate}
 use Rattle.cert_check.specs.declared.certificate.Certificate.TheVariants.{Cc, Cm, Ccv}
 use Rattle.cert_check.specs.Criteria.{Explains}
 use Rattle.cert_check.specs.Schedules.{named, StandsBefore, IsSchedule}
-use Rattle.causal_order.specs.Schedules.{placed}
+use Rattle.order_causal.specs.Schedules.{placed}
 
 -- the criterion of a certificate
 abbrev pub criterion_of : Certificate → Criterion

@@ -1,11 +1,11 @@
 -- The three criteria of Bouajjani, Enea, Guerraoui and Hamza ("On Verifying Causal Consistency", POPL 2017, section 3),
 -- for a history h and what its object answers from a start after earlier calls.
 use Rattle.std.specs.Prelude.{◌≡◌, ℕ, IsTrue, List, Some, filter, length, take, nat_lt}
-use Rattle.history.specs.declared.op_id.OpId.{OpId}
-use Rattle.history.specs.History.{HistoryValue, IsOp, Precedes, session, entry, calls}
+use Rattle.model_history.specs.declared.op_id.OpId.{OpId}
+use Rattle.model_history.specs.History.{HistoryValue, IsOp, Precedes, session, entry, calls}
 use Rattle.cert_check.specs.declared.criterion.Criterion.{Criterion}
 use Rattle.cert_check.specs.declared.criterion.Criterion.TheVariants.{Cc, Cm, Ccv}
-use Rattle.causal_order.specs.Orders.{Ops, Order, only, program_past, past, StandsAt, IsLinearization}
+use Rattle.order_causal.specs.Orders.{Ops, Order, only, program_past, past, StandsAt, IsLinearization}
 
 module _ {S C R : Type 0} where
   -- all operations of a history

@@ -1,10 +1,10 @@
 -- Schedules: lists of session numbers, each of which names the next operation of its session (this project's profile).
 use Rattle.std.specs.Prelude.{◌≡◌, ◌≢◌, ℕ, ◌<◌, ◌++◌, List, [], ◌∷◌}
-use Rattle.history.specs.declared.op_id.OpId.{OpId}
-use Rattle.history.specs.History.{HistoryValue, IsOp}
-use Rattle.causal_order.specs.Orders.{StandsAt}
-use Rattle.causal_order.specs.Schedules.{placed, next_of}
-use Rattle.causal_order.specs.Vectors.{Counts, count, IsCounted}
+use Rattle.model_history.specs.declared.op_id.OpId.{OpId}
+use Rattle.model_history.specs.History.{HistoryValue, IsOp}
+use Rattle.order_causal.specs.Orders.{StandsAt}
+use Rattle.order_causal.specs.Schedules.{placed, next_of}
+use Rattle.order_causal.specs.Vectors.{Counts, count, IsCounted}
 
 -- the operations that a list names behind another list, and those that it names alone
 abbrev pub named_after : List ℕ → List ℕ → List OpId

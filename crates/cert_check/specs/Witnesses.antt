@@ -1,10 +1,10 @@
 -- What a certificate names to show its criterion: a causal order and, for each operation, a list of its past (this
 -- project's profile).
 use Rattle.std.specs.Prelude.{⊤, ◌&&◌, not, List, filter}
-use Rattle.history.specs.declared.op_id.OpId.{OpId}
-use Rattle.history.specs.History.{HistoryValue, IsOp}
-use Rattle.causal_order.specs.Orders.{Ops, Order, only, program_past, past, IsLinearization}
-use Rattle.causal_order.specs.Vectors.{Counts, list_of}
+use Rattle.model_history.specs.declared.op_id.OpId.{OpId}
+use Rattle.model_history.specs.History.{HistoryValue, IsOp}
+use Rattle.order_causal.specs.Orders.{Ops, Order, only, program_past, past, IsLinearization}
+use Rattle.order_causal.specs.Vectors.{Counts, list_of}
 use Rattle.cert_check.specs.declared.criterion.Criterion.{Criterion}
 use Rattle.cert_check.specs.declared.criterion.Criterion.TheVariants as criteria
 use Rattle.cert_check.specs.declared.certificate.Certificate.{Certificate}

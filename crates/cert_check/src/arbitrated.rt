@@ -1,10 +1,10 @@
 //! The check of one piece of a certificate for causal convergence, against the one list of all operations.
 
 ghost use Rattle.std.specs.Prelude.{◌≡◌, ◌+◌, ◌<◌, ◌↔◌, ℕ, length, filter, take, IfOk, IsTrue};
-ghost use Rattle.history.specs.History.{session, IsOp};
-ghost use Rattle.causal_order.specs.Vectors.{AreVectorsOf};
+ghost use Rattle.model_history.specs.History.{session, IsOp};
+ghost use Rattle.order_causal.specs.Vectors.{AreVectorsOf};
 ghost use Rattle.cert_check.specs.Certificates.{counted, IsArbitratedPiece};
-ghost use Rattle.causal_order.specs.Schedules.{placed};
+ghost use Rattle.order_causal.specs.Schedules.{placed};
 ghost use Rattle.cert_check.specs.Schedules.{named};
 ghost use Rattle.cert_check.specs.Steps.Namings.{AreCountsAt};
 ghost use Rattle.cert_check.specs.Steps.Replays.{IsAnsweredAfter, NamesOperations};
@@ -12,9 +12,9 @@ ghost use Rattle.cert_check.specs.Steps.Replays.{IsAnsweredAfter, NamesOperation
 use crate::considered::is_answered_at;
 use crate::list_walk::ListWalk;
 use crate::naming::Naming;
-use causal_order::{Vectors, vector_ok};
-use history::{History, OpId};
-use object_trait::SeqObject;
+use model_history::{History, OpId};
+use model_object_trait::SeqObject;
+use order_causal::{Vectors, vector_ok};
 use std::alloc::{AllocError, Global};
 
 /// Whether the vector of an operation and the one list explain its known return. The walk over the list goes on from operation to

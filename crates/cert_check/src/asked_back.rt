@@ -1,18 +1,18 @@
 //! Checks the known returns of a session from the end of a schedule back.
 
 ghost use Rattle.std.specs.Prelude.{◌≤◌, ◌↔◌, length, take, IfOk, IfSome, IsTrue};
-ghost use Rattle.history.specs.History.{IsOp};
-ghost use Rattle.causal_order.specs.Orders.{program_past};
-ghost use Rattle.causal_order.specs.Vectors.{AreVectorsOf, IsVectorOk};
+ghost use Rattle.model_history.specs.History.{IsOp};
+ghost use Rattle.order_causal.specs.Orders.{program_past};
+ghost use Rattle.order_causal.specs.Vectors.{AreVectorsOf, IsVectorOk};
 ghost use Rattle.cert_check.specs.Schedules.{named, IsSchedule};
 ghost use Rattle.cert_check.specs.Steps.Namings.{AreCountsAt};
 ghost use Rattle.cert_check.specs.Steps.Replays.{AreAnswered, IsAnsweredAfter};
 
 use crate::considered::is_answered_back_to;
 use crate::naming::Naming;
-use causal_order::Vectors;
-use history::{History, OpId};
-use object_trait::SeqObject;
+use model_history::{History, OpId};
+use model_object_trait::SeqObject;
+use order_causal::Vectors;
 use std::alloc::{AllocError, Global};
 
 /// How far before a known return the check looks for the call that settles it.

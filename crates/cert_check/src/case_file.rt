@@ -7,8 +7,8 @@ use crate::certificate::Certificate;
 use crate::criterion::Criterion;
 use crate::desk_error::DeskError;
 use crate::shape::shape_ok;
-use history::History;
-use object_trait::SeqObject;
+use model_history::History;
+use model_object_trait::SeqObject;
 use std::marker::Model;
 
 /// A history, the criterion by which to judge it and optionally a certificate of it.

@@ -5,7 +5,7 @@ ghost use Rattle.cert_check.specs.Certificates.{criterion_of, vectors_of};
 
 use crate::arbitration::Arbitration;
 use crate::criterion::Criterion;
-use causal_order::{ByOperation, Vectors};
+use order_causal::{ByOperation, Vectors};
 use std::alloc::{AllocError, Global};
 
 /// For each operation, a list of session numbers, each of which names that session's next operation.

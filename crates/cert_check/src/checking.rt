@@ -1,7 +1,7 @@
 //! The check of one piece of a case file's certificate, and the first operation whose piece explains nothing.
 
 ghost use Rattle.std.specs.Prelude.{◌≡◌, ◌↔◌, IfOk, IsNone, IsSome, MatchOption, Some};
-ghost use Rattle.history.specs.History.{IsOp};
+ghost use Rattle.model_history.specs.History.{IsOp};
 ghost use Rattle.cert_check.specs.Criteria.{Meets};
 ghost use Rattle.cert_check.specs.declared.certificate.Certificate.{Certificate as AnyCertificate};
 ghost use Rattle.cert_check.specs.Certificates.{IsExplainedIn, IsExplainedPiece, IsExplainedThroughout};
@@ -11,8 +11,8 @@ ghost use Rattle.cert_check.specs.Steps.Firsts.{IsFirstOfSession};
 use crate::case_file::CaseFile;
 use crate::laws::explained_certificates_show_their_criterion;
 use crate::piece_checker::PieceChecker;
-use history::OpId;
-use object_trait::SeqObject;
+use model_history::OpId;
+use model_object_trait::SeqObject;
 use std::alloc::{AllocError, Global};
 
 /// The result of the check of one piece of a certificate.

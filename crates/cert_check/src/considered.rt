@@ -1,18 +1,18 @@
 //! The calls on which a known return depends.
 
 ghost use Rattle.std.specs.Prelude.{◌≡◌, ◌≤◌, ◌↔◌, ◌∷◌, List, length, filter, take, IfOk, IfSome, IsSome, IsTrue, MatchOption};
-ghost use Rattle.history.specs.declared.op_id.OpId.{OpId as Operation};
-ghost use Rattle.history.specs.History.{IsOp, calls};
-ghost use Rattle.causal_order.specs.Vectors.{AreVectorsOf, HasListOf};
+ghost use Rattle.model_history.specs.declared.op_id.OpId.{OpId as Operation};
+ghost use Rattle.model_history.specs.History.{IsOp, calls};
+ghost use Rattle.order_causal.specs.Vectors.{AreVectorsOf, HasListOf};
 ghost use Rattle.cert_check.specs.Certificates.{counted};
 ghost use Rattle.cert_check.specs.Schedules.{named};
 ghost use Rattle.cert_check.specs.Steps.Namings.{AreCountsAt};
 ghost use Rattle.cert_check.specs.Steps.Replays.{considered, IsAnsweredAfter, IsAnsweredBy, IsCallOf, NamesOperations};
 
 use crate::naming::Naming;
-use causal_order::{Vectors, count_of};
-use history::{History, OpId};
-use object_trait::{SeqObject, replay};
+use model_history::{History, OpId};
+use model_object_trait::{SeqObject, replay};
+use order_causal::{Vectors, count_of};
 use std::alloc::{AllocError, Global};
 
 /// Whether the return of an operation, where it is known, is the answer after those operations before a place of a list that its

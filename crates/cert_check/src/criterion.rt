@@ -1,7 +1,7 @@
 //! The three criteria of causal consistency, by which a history is judged.
 
 ghost use Rattle.std.specs.Prelude.{◌≡◌};
-ghost use Rattle.operations.specs.Reads.{IsRead};
+ghost use Rattle.json_histories.specs.Reads.{IsRead};
 ghost use Rattle.cert_check.specs.CriterionNames.{name_of};
 
 /// The criteria by which a history can be judged.

@@ -3,7 +3,7 @@
 ghost use Rattle.std.specs.Prelude.{◌≡◌};
 ghost use Rattle.cert_check.specs.Steps.Replays.{kept_of};
 
-use history::OpId;
+use model_history::OpId;
 
 /// The operations whose known returns are kept; those of all others are hidden.
 #[derive(Clone, Copy)]

@@ -1,7 +1,7 @@
 //! What holds of the criteria for every object, and of certificates. The functions do nothing: what they ensure is the law.
 
 ghost use Rattle.std.specs.Prelude.{◌≡◌, ◌↔◌};
-ghost use Rattle.history.specs.History.{HistoryValue, IsHistory};
+ghost use Rattle.model_history.specs.History.{HistoryValue, IsHistory};
 ghost use Rattle.cert_check.specs.CertificateForm.{form_of, IsCertificate};
 ghost use Rattle.cert_check.specs.Certificates.{criterion_of, Certifies, HasShapeOf, IsExplainedThroughout};
 ghost use Rattle.cert_check.specs.Criteria.{Meets};
@@ -9,7 +9,7 @@ ghost use Rattle.cert_check.specs.Witnesses.{IsWitness};
 
 use crate::certificate::Certificate;
 use crate::criterion::Criterion;
-use object_trait::SeqObject;
+use model_object_trait::SeqObject;
 
 /// A causal memory history is causally consistent.
 pub fn causal_memory_is_causally_consistent<O: SeqObject>()

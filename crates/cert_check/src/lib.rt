@@ -2,7 +2,7 @@
 //! certificate show of them, and how the criteria relate to one another.
 //!
 //! It gives [`Criterion`], [`Certificate`], [`CaseFile`], [`PieceChecker`], [`check_piece`] and [`read_certificate`]. It uses
-//! object_trait, history, operations, causal_order, serde_json and thiserror. How a piece is checked may change, and
+//! model_object_trait, model_history, json_histories, order_causal, serde_json and thiserror. How a piece is checked may change, and
 //! how lists are walked: callers rest on the contracts alone, with the form of a certificate and the numbers of errors in them.
 #![tactic(auto)]
 

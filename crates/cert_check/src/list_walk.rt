@@ -1,15 +1,15 @@
 //! A walk over the one list of a certificate, from operation to operation.
 
 ghost use Rattle.std.specs.Prelude.{◌≡◌, ◌+◌, ◌<◌, ◌≤◌, ℕ, List, length, slice_index_or, IfOk};
-ghost use Rattle.causal_order.specs.Orders.{StandsAt};
-ghost use Rattle.causal_order.specs.Schedules.{placed};
+ghost use Rattle.order_causal.specs.Orders.{StandsAt};
+ghost use Rattle.order_causal.specs.Schedules.{placed};
 ghost use Rattle.cert_check.specs.Schedules.{named};
 ghost use Rattle.cert_check.specs.Steps.Namings.{AreCountsAt};
 ghost use Rattle.cert_check.specs.Steps.Replays.{NamesOperations};
 
 use crate::naming::Naming;
-use history::{History, OpId};
-use object_trait::SeqObject;
+use model_history::{History, OpId};
+use model_object_trait::SeqObject;
 use std::alloc::{AllocError, Global};
 
 /// How far a walk over a list has gone: a place, and how many operations of each session the numbers before it name.

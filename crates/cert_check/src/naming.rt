@@ -2,19 +2,19 @@
 
 ghost use Rattle.std.specs.Prelude.{◌≡◌, ◌+◌, ◌-◌, ◌<◌, ◌≤◌, ◌↔◌, ℕ, List, length, slice_get, slice_index_or, slice_set, take};
 ghost use Rattle.std.specs.Prelude.{IfOk, IsTrue, MatchOption, Some};
-ghost use Rattle.history.specs.History.{IsOp};
-ghost use Rattle.causal_order.specs.Orders.{op, StandsAt};
-ghost use Rattle.causal_order.specs.Schedules.{placed};
-ghost use Rattle.causal_order.specs.Vectors.{count, AreVectorsOf, HasListOf};
+ghost use Rattle.model_history.specs.History.{IsOp};
+ghost use Rattle.order_causal.specs.Orders.{op, StandsAt};
+ghost use Rattle.order_causal.specs.Schedules.{placed};
+ghost use Rattle.order_causal.specs.Vectors.{count, AreVectorsOf, HasListOf};
 ghost use Rattle.cert_check.specs.Steps.Namings.{AreCountsAt, AreNamedWell, IsNamedWell};
 ghost use Rattle.cert_check.specs.Schedules.{named};
 ghost use Rattle.cert_check.specs.Steps.Needs.{AreNeedsOf};
 ghost use Rattle.cert_check.specs.Steps.Replays.{NamesOperations};
 
 use crate::need::Needs;
-use causal_order::{Vectors, is_at_most};
-use history::{History, OpId};
-use object_trait::SeqObject;
+use model_history::{History, OpId};
+use model_object_trait::SeqObject;
+use order_causal::{Vectors, is_at_most};
 use std::alloc::{AllocError, Global};
 
 /// How many operations of each session a list of session numbers has named so far.

@@ -1,13 +1,13 @@
 //! What a list must name before each operation, so that it keeps to the causal order of the vectors.
 
 ghost use Rattle.std.specs.Prelude.{◌≡◌, ◌<◌, ◌↔◌, ℕ, [], length, slice_index_or, IfOk, IfSome, IsTrue};
-ghost use Rattle.causal_order.specs.Orders.{op};
-ghost use Rattle.causal_order.specs.Vectors.{AreVectorsOf, HasListOf};
+ghost use Rattle.order_causal.specs.Orders.{op};
+ghost use Rattle.order_causal.specs.Vectors.{AreVectorsOf, HasListOf};
 ghost use Rattle.cert_check.specs.Steps.Needs.{vector_before, need_of, AreNeedsOf, IsCountCovered, IsCovered, IsMet, IsNeedOf};
 
-use causal_order::{Vectors, is_at_most};
-use history::{History, OpId};
-use object_trait::SeqObject;
+use model_history::{History, OpId};
+use model_object_trait::SeqObject;
+use order_causal::{Vectors, is_at_most};
 use std::alloc::{AllocError, Global};
 use std::marker::Model;
 

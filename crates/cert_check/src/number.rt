@@ -2,9 +2,9 @@
 
 ghost use Rattle.std.specs.Prelude.{ℕ, ◌<◌, ◌^◌};
 ghost use Rattle.serde_json.specs.View.{view};
-ghost use Rattle.operations.specs.Reads.{number_form, IsReadWithin};
+ghost use Rattle.json_histories.specs.Reads.{number_form, IsReadWithin};
 
-use history::MAX_SESSIONS;
+use model_history::MAX_SESSIONS;
 use serde_json::Value;
 
 /// A number in the lists of a certificate: a count of a vector, or a session number.
@@ -32,7 +32,7 @@ impl Number for u16 {
 
 /// A session number.
 impl Number for u8 {
-    ghost use Rattle.history.specs.declared.limits.TheConstants.{MAX_SESSIONS};
+    ghost use Rattle.model_history.specs.declared.limits.TheConstants.{MAX_SESSIONS};
 
     ghost whole = { λ n. n };
 

@@ -1,17 +1,17 @@
 //! The check of an operation's own known return against the operations in its schedule.
 
 ghost use Rattle.std.specs.Prelude.{◌↔◌, IfOk, IsTrue};
-ghost use Rattle.history.specs.History.{IsOp};
-ghost use Rattle.causal_order.specs.Orders.{only};
-ghost use Rattle.causal_order.specs.Vectors.{AreVectorsOf, IsVectorOk};
+ghost use Rattle.model_history.specs.History.{IsOp};
+ghost use Rattle.order_causal.specs.Orders.{only};
+ghost use Rattle.order_causal.specs.Vectors.{AreVectorsOf, IsVectorOk};
 ghost use Rattle.cert_check.specs.Criteria.{Explains};
 ghost use Rattle.cert_check.specs.Schedules.{named, IsSchedule};
 
 use crate::considered::is_answered_at;
 use crate::naming::Naming;
-use causal_order::Vectors;
-use history::{History, OpId};
-use object_trait::SeqObject;
+use model_history::{History, OpId};
+use model_object_trait::SeqObject;
+use order_causal::Vectors;
 use std::alloc::{AllocError, Global};
 
 /// Whether the operations in the schedule of an operation explain its own known return.

@@ -1,9 +1,9 @@
 //! Checks schedules one after another for the known returns of sessions.
 
 ghost use Rattle.std.specs.Prelude.{◌≡◌, ◌↔◌, ◌≤◌, length, take, IfOk, IfSome, IsTrue};
-ghost use Rattle.history.specs.History.{IsOp};
-ghost use Rattle.causal_order.specs.Orders.{program_past};
-ghost use Rattle.causal_order.specs.Vectors.{AreVectorsOf, Counts, IsVectorOk};
+ghost use Rattle.model_history.specs.History.{IsOp};
+ghost use Rattle.order_causal.specs.Orders.{program_past};
+ghost use Rattle.order_causal.specs.Vectors.{AreVectorsOf, Counts, IsVectorOk};
 ghost use Rattle.cert_check.specs.Schedules.{named, IsSchedule};
 ghost use Rattle.cert_check.specs.Steps.Replays.{AreAnswered, IsReplayAt};
 
@@ -11,9 +11,9 @@ use crate::asked_back::are_answered_behind;
 use crate::kept::Kept;
 use crate::naming::shared_front;
 use crate::replay::Replay;
-use causal_order::Vectors;
-use history::{History, OpId};
-use object_trait::SeqObject;
+use model_history::{History, OpId};
+use model_object_trait::SeqObject;
+use order_causal::Vectors;
 use std::alloc::{AllocError, Global};
 use std::marker::Model;
 use std::mem;
@@ -30,7 +30,7 @@ pub struct PastReplay<'a, O: SeqObject> {
 }
 
 impl<'a, O: SeqObject> Model for PastReplay<'a, O> {
-    ghost use Rattle.history.specs.History.{HistoryValue};
+    ghost use Rattle.model_history.specs.History.{HistoryValue};
     ghost use Rattle.std.specs.Prelude.{IfSome, length};
     ghost use Rattle.cert_check.specs.Schedules.{named};
     ghost use Rattle.cert_check.specs.Steps.Replays.{IsReplayAt};

@@ -1,9 +1,9 @@
 //! Checks the pieces of a certificate one after another.
 
 ghost use Rattle.std.specs.Prelude.{◌≡◌, ◌↔◌, IfOk, IsSome, IsTrue, Some};
-ghost use Rattle.history.specs.History.{IsOp};
-ghost use Rattle.causal_order.specs.Orders.{only, program_past};
-ghost use Rattle.causal_order.specs.Vectors.{AreVectorsOf};
+ghost use Rattle.model_history.specs.History.{IsOp};
+ghost use Rattle.order_causal.specs.Orders.{only, program_past};
+ghost use Rattle.order_causal.specs.Vectors.{AreVectorsOf};
 ghost use Rattle.cert_check.specs.declared.certificate.Certificate.{Certificate as AnyCertificate};
 ghost use Rattle.cert_check.specs.Certificates.{vectors_of, IsExplainedIn, IsExplainedPiece, IsScheduledPiece};
 ghost use Rattle.cert_check.specs.Steps.Needs.{AreNeedsOf};
@@ -17,9 +17,9 @@ use crate::need::Needs;
 use crate::own_answers::explains_own;
 use crate::past_replay::PastReplay;
 use crate::schedule_walk::ScheduleWalk;
-use causal_order::Vectors;
-use history::{History, OpId};
-use object_trait::SeqObject;
+use model_history::{History, OpId};
+use model_object_trait::SeqObject;
+use order_causal::Vectors;
 use std::alloc::{AllocError, Global};
 use std::marker::Model;
 

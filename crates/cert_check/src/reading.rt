@@ -2,7 +2,7 @@
 
 ghost use Rattle.std.specs.Prelude.{◌∷◌, [], map, IfOk};
 ghost use Rattle.serde_json.specs.View.{view};
-ghost use Rattle.operations.specs.Reads.{worded, IsReadWithin};
+ghost use Rattle.json_histories.specs.Reads.{worded, IsReadWithin};
 ghost use Rattle.cert_check.specs.CriterionNames.{name_of};
 ghost use Rattle.cert_check.specs.CertificateForm.{form_of, IsCertificate, IsReadAs};
 
@@ -11,7 +11,7 @@ use crate::cert_error::CertError;
 use crate::certificate::Certificate;
 use crate::criterion::Criterion;
 use crate::reading_lists::{read_lists, read_numbers};
-use operations::word_and_rest;
+use json_histories::word_and_rest;
 use serde_json::Value;
 use std::alloc::{AllocError, Global};
 

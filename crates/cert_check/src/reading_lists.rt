@@ -2,12 +2,12 @@
 
 ghost use Rattle.std.specs.Prelude.{All, map, option_map, IfOk};
 ghost use Rattle.serde_json.specs.View.{view};
-ghost use Rattle.operations.specs.Json.{list};
-ghost use Rattle.operations.specs.Reads.{list_form, number_form, IsReadWithin};
+ghost use Rattle.json_histories.specs.Json.{list};
+ghost use Rattle.json_histories.specs.Reads.{list_form, number_form, IsReadWithin};
 
 use crate::number::{Number, read_number};
-use causal_order::{ByOperation, Rows};
-use operations::elements_of;
+use json_histories::elements_of;
+use order_causal::{ByOperation, Rows};
 use serde_json::Value;
 use std::alloc::{AllocError, Global};
 

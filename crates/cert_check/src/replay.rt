@@ -2,17 +2,17 @@
 
 ghost use Rattle.std.specs.Prelude.{◌≡◌, ◌+◌, ◌≤◌, ◌↔◌, ℕ, List, [], ◌∷◌, ◌++◌, length, IfOk, IsTrue};
 ghost use Rattle.std.specs.Prelude.{MatchOption, slice_index_or, slice_set, take};
-ghost use Rattle.history.specs.declared.op_id.OpId.{OpId};
-ghost use Rattle.history.specs.History.{IsOp, calls};
-ghost use Rattle.causal_order.specs.Orders.{op};
+ghost use Rattle.model_history.specs.declared.op_id.OpId.{OpId};
+ghost use Rattle.model_history.specs.History.{IsOp, calls};
+ghost use Rattle.order_causal.specs.Orders.{op};
 ghost use Rattle.cert_check.specs.Schedules.{named};
 ghost use Rattle.cert_check.specs.Steps.Replays.{kept_of, AreAnswered, IsAnsweredAfter, IsAnsweredBy};
 ghost use Rattle.cert_check.specs.Steps.Replays.{IsReplayAt, NamesOperations};
 
 use crate::kept::Kept;
 use crate::naming::Naming;
-use history::{History, OpId};
-use object_trait::SeqObject;
+use model_history::{History, OpId};
+use model_object_trait::SeqObject;
 use std::alloc::{AllocError, Global};
 
 /// The state of a replay over a list of session numbers.

@@ -1,17 +1,17 @@
 //! A walk through schedules, one after another.
 
 ghost use Rattle.std.specs.Prelude.{◌≡◌, ◌↔◌, IfOk, IsTrue};
-ghost use Rattle.history.specs.History.{IsOp};
-ghost use Rattle.causal_order.specs.Vectors.{AreVectorsOf, IsVectorOk};
+ghost use Rattle.model_history.specs.History.{IsOp};
+ghost use Rattle.order_causal.specs.Vectors.{AreVectorsOf, IsVectorOk};
 ghost use Rattle.cert_check.specs.Schedules.{IsSchedule};
 ghost use Rattle.cert_check.specs.Steps.Needs.{AreNeedsOf};
 
 use crate::naming::Naming;
 use crate::need::Needs;
 use crate::scheduled::is_schedule;
-use causal_order::Vectors;
-use history::{History, OpId};
-use object_trait::SeqObject;
+use model_history::{History, OpId};
+use model_object_trait::SeqObject;
+use order_causal::Vectors;
 use std::alloc::{AllocError, Global};
 use std::marker::Model;
 
@@ -27,8 +27,8 @@ pub struct ScheduleWalk<'a, O: SeqObject> {
 }
 
 impl<'a, O: SeqObject> Model for ScheduleWalk<'a, O> {
-    ghost use Rattle.history.specs.History.{HistoryValue};
-    ghost use Rattle.causal_order.specs.Vectors.{Counts};
+    ghost use Rattle.model_history.specs.History.{HistoryValue};
+    ghost use Rattle.order_causal.specs.Vectors.{Counts};
     ghost use Rattle.cert_check.specs.Steps.Walks.{IsAtEnd};
 
     ghost Value = { HistoryValue O.Start O.Call O.Ret × Counts };

@@ -1,17 +1,17 @@
 //! The check of one schedule of a certificate: the order in which it names operations.
 
 ghost use Rattle.std.specs.Prelude.{◌≡◌, ◌↔◌, length, IsTrue};
-ghost use Rattle.history.specs.History.{IsOp};
-ghost use Rattle.causal_order.specs.Vectors.{AreVectorsOf, IsVectorOk};
+ghost use Rattle.model_history.specs.History.{IsOp};
+ghost use Rattle.order_causal.specs.Vectors.{AreVectorsOf, IsVectorOk};
 ghost use Rattle.cert_check.specs.Schedules.{IsSchedule};
 ghost use Rattle.cert_check.specs.Steps.Namings.{AreCountsAt, AreNamedWell};
 ghost use Rattle.cert_check.specs.Steps.Needs.{AreNeedsOf};
 
 use crate::naming::Naming;
 use crate::need::Needs;
-use causal_order::{Vectors, vector_ok};
-use history::{History, OpId};
-use object_trait::SeqObject;
+use model_history::{History, OpId};
+use model_object_trait::SeqObject;
+use order_causal::{Vectors, vector_ok};
 
 /// Whether the vector and the schedule of an operation are good, continuing from another list that names operations well.
 ///

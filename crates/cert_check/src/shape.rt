@@ -1,14 +1,14 @@
 //! The shape of a certificate: whether its vectors, and its schedules or its list, fit the operations of a history.
 
 ghost use Rattle.std.specs.Prelude.{◌≡◌, ◌<◌, ℕ, ◌↔◌, All, IsTrue, length};
-ghost use Rattle.history.specs.History.{session};
+ghost use Rattle.model_history.specs.History.{session};
 ghost use Rattle.cert_check.specs.Certificates.{HasShapeOf};
-ghost use Rattle.causal_order.specs.Schedules.{placed};
+ghost use Rattle.order_causal.specs.Schedules.{placed};
 
 use crate::certificate::Certificate;
-use causal_order::{are_vectors_of, has_one_each};
-use history::History;
-use object_trait::SeqObject;
+use model_history::History;
+use model_object_trait::SeqObject;
+use order_causal::{are_vectors_of, has_one_each};
 
 /// Whether a certificate has the shape of a history: a vector for each operation with one count for each session, and
 /// for each a schedule, or one list in which each session occurs as often as it has operations.

@@ -4,27 +4,27 @@ use Rattle.std.proofs.Common.{◌≡◌, ℕ, ◌+◌, ◌-◌, ◌<◌, ◌≤�
 use Rattle.std.proofs.lemmas.Bool.{not-true, true≢false}
 use Rattle.std.proofs.lemmas.List.{get_or_append_left, get_or_push}
 use Rattle.std.proofs.lemmas.Option.{same_Some, slice_get_within, slice_get-get_or, get_or_from_slice_get}
-use Rattle.history.specs.declared.op_id.OpId.{OpId}
-use Rattle.history.specs.History.{Precedes}
-use Rattle.memory_order.specs.declared.known_reads.KnownRead.{KnownRead}
-use Rattle.memory_order.specs.Memory.{MemoryHistory, Reads, Writes}
-use Rattle.causal_order.specs.Orders.{only, op, StandsAt}
-use Rattle.memory_order.specs.Relations.{IsEdge, ReadsFrom}
-use Rattle.memory_order.specs.SourceOrder.{IsSource, SourceOrder}
-use Rattle.causal_order.specs.Vectors.{IsListed, Counts, count}
-use Rattle.memory_order.specs.Steps.Conflicts.{IsWriteInPast, IsDue}
-use Rattle.memory_order.specs.Steps.Indexed.{HasNoWriteOfPast, IsKnownRead, IsLastWriteOfPast, IsSourceIfAny, IsSourcePast, ListsReads}
-use Rattle.causal_order.specs.Waits.{AreAlike, AreWaitsFor, IsAwaited, IsWaitEdge, IsWaitingCycle}
-use Rattle.memory_order.proofs.IndexedLaws.{if_any-unique}
-use Rattle.memory_order.proofs.MemoryLaws.{read-of_history, same_read, write-or_read}
-use Rattle.causal_order.proofs.OrdersLaws.{same_op}
+use Rattle.model_history.specs.declared.op_id.OpId.{OpId}
+use Rattle.model_history.specs.History.{Precedes}
+use Rattle.order_memory.specs.declared.known_reads.KnownRead.{KnownRead}
+use Rattle.order_memory.specs.Memory.{MemoryHistory, Reads, Writes}
+use Rattle.order_causal.specs.Orders.{only, op, StandsAt}
+use Rattle.order_memory.specs.Relations.{IsEdge, ReadsFrom}
+use Rattle.order_memory.specs.SourceOrder.{IsSource, SourceOrder}
+use Rattle.order_causal.specs.Vectors.{IsListed, Counts, count}
+use Rattle.order_memory.specs.Steps.Conflicts.{IsWriteInPast, IsDue}
+use Rattle.order_memory.specs.Steps.Indexed.{HasNoWriteOfPast, IsKnownRead, IsLastWriteOfPast, IsSourceIfAny, IsSourcePast, ListsReads}
+use Rattle.order_causal.specs.Waits.{AreAlike, AreWaitsFor, IsAwaited, IsWaitEdge, IsWaitingCycle}
+use Rattle.order_memory.proofs.IndexedLaws.{if_any-unique}
+use Rattle.order_memory.proofs.MemoryLaws.{read-of_history, same_read, write-or_read}
+use Rattle.order_causal.proofs.OrdersLaws.{same_op}
 use Rattle.cert_check.proofs.ConvergentLaws.{only-same}
-use Rattle.bad_patterns.specs.declared.link.Link.{Link}
-use Rattle.bad_patterns.specs.declared.link.Link.TheVariants.{Co, Cf}
-use Rattle.bad_patterns.specs.Paths.{GoesFrom, IsCycle}
+use Rattle.pattern_check.specs.declared.link.Link.{Link}
+use Rattle.pattern_check.specs.declared.link.Link.TheVariants.{Co, Cf}
+use Rattle.pattern_check.specs.Paths.{GoesFrom, IsCycle}
 use Rattle.pattern_search.specs.Steps.Conflicts.{AreLinksOf, IsConflictBy, IsConflictCycle, IsConflictStep, IsLastConflict, LinksTo}
-use Rattle.bad_patterns.proofs.ReadPasts.{itself}
-use Rattle.memory_order.proofs.Elements.{at-listed}
+use Rattle.pattern_check.proofs.ReadPasts.{itself}
+use Rattle.order_memory.proofs.Elements.{at-listed}
 use Rattle.pattern_search.proofs.ReadPatterns.{source-of}
 
 -- the test of operations for equality

@@ -3,16 +3,16 @@ use Rattle.std.proofs.Common.{◌≡◌, ℕ, ◌+◌, ◌-◌, ◌<◌, ◌≤�
 use Rattle.std.specs.Prelude.{◌≢◌, Some, slice_get}
 use Rattle.std.proofs.lemmas.Bool.{cases_lt, true≢false}
 use Rattle.std.proofs.lemmas.Option.{same_Some, slice_get_within}
-use Rattle.history.specs.declared.op_id.OpId.{OpId}
-use Rattle.memory_order.specs.declared.growing_order.Raise.{Raise}
-use Rattle.memory_order.specs.Memory.{MemoryHistory}
-use Rattle.memory_order.specs.SourceOrder.{SourceOrder}
-use Rattle.causal_order.proofs.Fronts.{push-at}
-use Rattle.bad_patterns.specs.declared.derivation.Line.{Line}
-use Rattle.bad_patterns.specs.declared.derivation.Line.TheVariants.{Co}
-use Rattle.bad_patterns.specs.Derivations.{Pair, Gives, GivePairs, IsDerivation}
-use Rattle.bad_patterns.specs.Paths.{GoesFrom, HasEdge}
-use Rattle.bad_patterns.proofs.Derived.{pairs-more, pairs-none}
+use Rattle.model_history.specs.declared.op_id.OpId.{OpId}
+use Rattle.order_memory.specs.declared.growing_order.Raise.{Raise}
+use Rattle.order_memory.specs.Memory.{MemoryHistory}
+use Rattle.order_memory.specs.SourceOrder.{SourceOrder}
+use Rattle.order_causal.proofs.Fronts.{push-at}
+use Rattle.pattern_check.specs.declared.derivation.Line.{Line}
+use Rattle.pattern_check.specs.declared.derivation.Line.TheVariants.{Co}
+use Rattle.pattern_check.specs.Derivations.{Pair, Gives, GivePairs, IsDerivation}
+use Rattle.pattern_check.specs.Paths.{GoesFrom, HasEdge}
+use Rattle.pattern_check.proofs.Derived.{pairs-more, pairs-none}
 use Rattle.pattern_search.specs.Steps.Drafts.{AreWritten, EndsIn, EndsWithin, GivesWithin, IsDraft, IsRaiseWritten, IsWritten, Lines}
 use Rattle.pattern_search.specs.Steps.Reasons.{IsBefore, IsFirstRaise, IsMarked, IsRaisedBy, Raises, last_of}
 use Rattle.pattern_search.proofs.PlacedLists.{pushed-before, pushed-here}

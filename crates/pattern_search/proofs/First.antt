@@ -1,13 +1,13 @@
 -- Which operation is the first thin-air read.
 use Rattle.std.proofs.Common.{◌≡◌, ℕ, ◌+◌, ◌<◌, ◌≤◌, ⊎_elim, length, arith, subst, ◌∙◌, eq-or-lt_of_le}
 use Rattle.std.proofs.lemmas.Option.{slice_get_within}
-use Rattle.history.specs.declared.op_id.OpId.{OpId}
-use Rattle.history.specs.History.{IsOp, session}
-use Rattle.memory_order.specs.Memory.{MemoryHistory}
-use Rattle.bad_patterns.specs.Kinds.{IsThinAirRead}
-use Rattle.causal_order.specs.Orders.{op}
+use Rattle.model_history.specs.declared.op_id.OpId.{OpId}
+use Rattle.model_history.specs.History.{IsOp, session}
+use Rattle.order_memory.specs.Memory.{MemoryHistory}
+use Rattle.pattern_check.specs.Kinds.{IsThinAirRead}
+use Rattle.order_causal.specs.Orders.{op}
 use Rattle.pattern_search.specs.Steps.Found.{IsFirst, IsFirstOf}
-use Rattle.causal_order.proofs.OrdersLaws.{session-of_history}
+use Rattle.order_causal.proofs.OrdersLaws.{session-of_history}
 
 module _ (h : MemoryHistory) where
   pub thin_air-of_history : (r : OpId) → IsThinAirRead h r → IsOp h r

@@ -3,17 +3,17 @@ use Rattle.std.proofs.Common.{◌<◌, ap, arith, inl, inr, refl, sym, subst, �
 use Rattle.std.specs.Prelude.{◌≡◌, ◌≢◌, ◌⊎◌, IsTrue, Some}
 use Rattle.cert_check.specs.declared.criterion.Criterion.{Criterion}
 use Rattle.cert_check.specs.declared.criterion.Criterion.TheVariants.{Cc, Cm, Ccv}
-use Rattle.memory_order.specs.HappenedBeforePatterns.{HasStartOverwrittenInHB}
-use Rattle.memory_order.specs.Memory.{MemoryHistory}
-use Rattle.memory_order.specs.OverwrittenReads.{HasOverwrittenStart}
-use Rattle.memory_order.specs.SourceOrder.{IsCyclic}
-use Rattle.memory_order.specs.Steps.Indexed.{IsOrdered}
-use Rattle.memory_order.proofs.FirstWrites.{CO-by_sources}
-use Rattle.bad_patterns.specs.declared.kind.Kind.{Kind}
-use Rattle.bad_patterns.specs.declared.kind.Kind.TheVariants.{CyclicCO, ThinAirRead, WriteCOInitRead, WriteCORead, WriteHBInitRead, CyclicHB, CyclicCF}
-use Rattle.bad_patterns.specs.declared.pattern.Pattern.{Pattern}
-use Rattle.bad_patterns.specs.Kinds.{is_against, IsFreeOf, IsPresent}
-use Rattle.bad_patterns.specs.Patterns.{kind_of}
+use Rattle.order_memory.specs.HappenedBeforePatterns.{HasStartOverwrittenInHB}
+use Rattle.order_memory.specs.Memory.{MemoryHistory}
+use Rattle.order_memory.specs.OverwrittenReads.{HasOverwrittenStart}
+use Rattle.order_memory.specs.SourceOrder.{IsCyclic}
+use Rattle.order_memory.specs.Steps.Indexed.{IsOrdered}
+use Rattle.order_memory.proofs.FirstWrites.{CO-by_sources}
+use Rattle.pattern_check.specs.declared.kind.Kind.{Kind}
+use Rattle.pattern_check.specs.declared.kind.Kind.TheVariants.{CyclicCO, ThinAirRead, WriteCOInitRead, WriteCORead, WriteHBInitRead, CyclicHB, CyclicCF}
+use Rattle.pattern_check.specs.declared.pattern.Pattern.{Pattern}
+use Rattle.pattern_check.specs.Kinds.{is_against, IsFreeOf, IsPresent}
+use Rattle.pattern_check.specs.Patterns.{kind_of}
 use Rattle.pattern_search.specs.FirstKinds.{ComesFirst, ComesFirstOrLarge, place_of}
 use Rattle.pattern_search.specs.Searches.{HasLargeHB}
 use Rattle.pattern_search.specs.Steps.Found.{IsFirstFound, IsFirstHappened}

@@ -10,11 +10,11 @@ use Rattle.std.specs.Ordering.{is_eq, ordering_then}
 use Rattle.std.proofs.lemmas.Bool.{cases_lt, eqb-true}
 use Rattle.std.proofs.lemmas.Cmp.{tied_itself}
 use Rattle.std.proofs.lemmas.Option.{same_Some, slice_get_within}
-use Rattle.history.specs.declared.op_id.OpId.{OpId}
-use Rattle.memory_order.specs.declared.growing_order.Raise.{Raise}
-use Rattle.causal_order.proofs.Fronts.{push-at, push-last}
-use Rattle.causal_order.proofs.OrdersLaws.{same_op}
-use Rattle.bad_patterns.specs.Derivations.{Pair}
+use Rattle.model_history.specs.declared.op_id.OpId.{OpId}
+use Rattle.order_memory.specs.declared.growing_order.Raise.{Raise}
+use Rattle.order_causal.proofs.Fronts.{push-at, push-last}
+use Rattle.order_causal.proofs.OrdersLaws.{same_op}
+use Rattle.pattern_check.specs.Derivations.{Pair}
 use Rattle.pattern_search.specs.Steps.Reasons.{AreLinked, IsFirstFrom, IsFirstRaise, IsLastOf, IsRaiseOf, IsRaisedBy, Raises, by_place, end_of}
 
 -- two places are the same exactly where the order of operations has them equal

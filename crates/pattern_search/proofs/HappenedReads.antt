@@ -4,21 +4,21 @@ use Rattle.std.specs.Prelude.{Contains, IsTrue, None, Option, Some, false, is_so
 use Rattle.std.proofs.lemmas.Option.{slice_get-get_or}
 use Rattle.std.proofs.lemmas.Bool.{cases_lt}
 use Rattle.std.proofs.lemmas.List.{get_or_past}
-use Rattle.history.specs.declared.op_id.OpId.{OpId}
-use Rattle.history.specs.History.{IsOp}
-use Rattle.memory_order.specs.declared.growing_order.Raise.{Raise}
-use Rattle.memory_order.specs.declared.known_reads.KnownRead.{KnownRead}
-use Rattle.memory_order.specs.Memory.{MemoryHistory, initial, Writes, Reads, IsDifferentiated}
-use Rattle.causal_order.specs.Orders.{op, program_past}
-use Rattle.memory_order.specs.Relations.{CO, HB, IsPast}
-use Rattle.memory_order.specs.SourceOrder.{LacksSource, SourceOrder}
-use Rattle.memory_order.specs.Steps.Indexed.{HasNoWriteBefore, IsKnownRead, IsLastWriteBefore, IsSourceIfAny, IsSourcePast, ListsReads}
-use Rattle.causal_order.specs.Vectors.{Counts, count, list_of}
-use Rattle.memory_order.proofs.FirstWrites.{CO-by_sources, CO-from_sources}
-use Rattle.memory_order.proofs.HappenedBeforeLaws.{HB-inside, past-of_history, past-program}
-use Rattle.memory_order.proofs.IndexedLaws.{if_any-source, if_any-unique}
-use Rattle.memory_order.proofs.MemoryLaws.{same_read}
-use Rattle.causal_order.proofs.OrdersLaws.{same_op, session-of_history}
+use Rattle.model_history.specs.declared.op_id.OpId.{OpId}
+use Rattle.model_history.specs.History.{IsOp}
+use Rattle.order_memory.specs.declared.growing_order.Raise.{Raise}
+use Rattle.order_memory.specs.declared.known_reads.KnownRead.{KnownRead}
+use Rattle.order_memory.specs.Memory.{MemoryHistory, initial, Writes, Reads, IsDifferentiated}
+use Rattle.order_causal.specs.Orders.{op, program_past}
+use Rattle.order_memory.specs.Relations.{CO, HB, IsPast}
+use Rattle.order_memory.specs.SourceOrder.{LacksSource, SourceOrder}
+use Rattle.order_memory.specs.Steps.Indexed.{HasNoWriteBefore, IsKnownRead, IsLastWriteBefore, IsSourceIfAny, IsSourcePast, ListsReads}
+use Rattle.order_causal.specs.Vectors.{Counts, count, list_of}
+use Rattle.order_memory.proofs.FirstWrites.{CO-by_sources, CO-from_sources}
+use Rattle.order_memory.proofs.HappenedBeforeLaws.{HB-inside, past-of_history, past-program}
+use Rattle.order_memory.proofs.IndexedLaws.{if_any-source, if_any-unique}
+use Rattle.order_memory.proofs.MemoryLaws.{same_read}
+use Rattle.order_causal.proofs.OrdersLaws.{same_op, session-of_history}
 use Rattle.pattern_search.specs.Steps.Relations.{HasNoStart, IsRelation, IsStartOverwritten, IsWriteHappened}
 
 -- where an element of a list is

@@ -1,17 +1,17 @@
 -- Reads whose sources come with them, and those whose sources were known before.
 use Rattle.std.specs.Prelude.{◌≡◌, ℕ, ◌-◌, ◌<◌, Option}
 use Rattle.std.proofs.Common.{arith, inl, inr, ⊎_elim, subst, eq-or-lt_of_le}
-use Rattle.history.specs.declared.op_id.OpId.{OpId}
-use Rattle.history.specs.History.{IsOp, Precedes}
-use Rattle.memory_order.specs.declared.known_reads.KnownRead.{KnownRead}
-use Rattle.memory_order.specs.Memory.{MemoryHistory}
-use Rattle.memory_order.specs.SourceOrder.{CountsSourceOrder, IsSource, IsSourceEdge, SourceOrder}
-use Rattle.memory_order.specs.Steps.Indexed.{IsKnownRead, IsSourceIfAny}
-use Rattle.memory_order.proofs.FirstWrites.{source-unique}
-use Rattle.causal_order.specs.Orders.{op}
-use Rattle.causal_order.specs.Vectors.{Counts}
-use Rattle.causal_order.proofs.OrdersLaws.{same_op}
-use Rattle.causal_order.proofs.PathsLaws.{leads-leads, leads-last, last-edge, IsFrom}
+use Rattle.model_history.specs.declared.op_id.OpId.{OpId}
+use Rattle.model_history.specs.History.{IsOp, Precedes}
+use Rattle.order_memory.specs.declared.known_reads.KnownRead.{KnownRead}
+use Rattle.order_memory.specs.Memory.{MemoryHistory}
+use Rattle.order_memory.specs.SourceOrder.{CountsSourceOrder, IsSource, IsSourceEdge, SourceOrder}
+use Rattle.order_memory.specs.Steps.Indexed.{IsKnownRead, IsSourceIfAny}
+use Rattle.order_memory.proofs.FirstWrites.{source-unique}
+use Rattle.order_causal.specs.Orders.{op}
+use Rattle.order_causal.specs.Vectors.{Counts}
+use Rattle.order_causal.proofs.OrdersLaws.{same_op}
+use Rattle.order_causal.proofs.PathsLaws.{leads-leads, leads-last, last-edge, IsFrom}
 use Rattle.pattern_search.specs.Steps.Routes.{AreWritesBefore, IsCountedBefore}
 
 module _ (h : MemoryHistory) (v : Counts) (counts : CountsSourceOrder h v) (k : KnownRead) (known : IsKnownRead h k) (a b : OpId)

@@ -2,19 +2,19 @@
 -- another, the causal order and the conflicts have no cycle.
 use Rattle.std.specs.Prelude.{◌≡◌, ◌⊎◌, ℕ}
 use Rattle.std.proofs.Common.{arith, subst, inl, inr, ⊎_elim, refl}
-use Rattle.history.specs.declared.op_id.OpId.{OpId}
-use Rattle.history.specs.History.{IsOp, Precedes}
-use Rattle.memory_order.specs.Memory.{MemoryHistory, IsDifferentiated, Reads}
-use Rattle.memory_order.specs.Relations.{CF, CO}
-use Rattle.causal_order.specs.Orders.{Leads}
-use Rattle.memory_order.specs.SourceOrder.{IsSource, IsSourceEdge}
-use Rattle.memory_order.specs.Steps.Conflicts.{IsDue}
-use Rattle.causal_order.specs.Vectors.{Counts}
-use Rattle.causal_order.specs.Waits.{AreAlike, AreWaits, AreWaitsFor, IsWaitEdge}
-use Rattle.memory_order.proofs.FirstWrites.{CO-by_sources, distinct-source}
-use Rattle.memory_order.proofs.MemoryLaws.{same_written, write-or_read}
-use Rattle.causal_order.proofs.PathsLaws.{leads-edge, leads-leads, leads-within}
-use Rattle.causal_order.proofs.WaitsLead.{first-leads}
+use Rattle.model_history.specs.declared.op_id.OpId.{OpId}
+use Rattle.model_history.specs.History.{IsOp, Precedes}
+use Rattle.order_memory.specs.Memory.{MemoryHistory, IsDifferentiated, Reads}
+use Rattle.order_memory.specs.Relations.{CF, CO}
+use Rattle.order_causal.specs.Orders.{Leads}
+use Rattle.order_memory.specs.SourceOrder.{IsSource, IsSourceEdge}
+use Rattle.order_memory.specs.Steps.Conflicts.{IsDue}
+use Rattle.order_causal.specs.Vectors.{Counts}
+use Rattle.order_causal.specs.Waits.{AreAlike, AreWaits, AreWaitsFor, IsWaitEdge}
+use Rattle.order_memory.proofs.FirstWrites.{CO-by_sources, distinct-source}
+use Rattle.order_memory.proofs.MemoryLaws.{same_written, write-or_read}
+use Rattle.order_causal.proofs.PathsLaws.{leads-edge, leads-leads, leads-within}
+use Rattle.order_causal.proofs.WaitsLead.{first-leads}
 
 module _ (h : MemoryHistory) (distinct : IsDifferentiated h)
     (waits : Counts) (kept : AreWaits waits) (alike : AreAlike waits h.1) (are : AreWaitsFor (IsDue h) waits) where

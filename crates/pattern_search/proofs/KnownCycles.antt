@@ -4,21 +4,21 @@ use Rattle.std.proofs.Common.{arith, get_or, sym, ap, subst, ◌∙◌, inl, inr
 use Rattle.std.proofs.lemmas.Bool.{cases_lt}
 use Rattle.std.proofs.lemmas.List.{get_or_past}
 use Rattle.std.proofs.lemmas.Option.{slice_get_within, slice_get-get_or}
-use Rattle.history.specs.declared.op_id.OpId.{OpId}
-use Rattle.history.specs.History.{IsOp, Precedes, session}
-use Rattle.memory_order.specs.Memory.{MemoryHistory, IsDifferentiated}
-use Rattle.memory_order.specs.Relations.{IsEdge, ReadsFrom}
-use Rattle.causal_order.specs.Orders.{Leads}
-use Rattle.memory_order.specs.SourceOrder.{IsCyclic}
-use Rattle.memory_order.specs.Sources.{Sources, HasSource, AreListed}
-use Rattle.memory_order.specs.Steps.Indexed.{IsSourceIfAny, ListsSourcesIfAny}
-use Rattle.causal_order.specs.Vectors.{IsListed, Counts}
-use Rattle.causal_order.specs.Waits.{AreAlike, AreWaits, AreWaitsFor, IsAwaited, IsWaitEdge, IsWaitingCycle}
-use Rattle.memory_order.proofs.MemoryLaws.{read-of_history, same_read, write-of_history, write-or_read}
-use Rattle.causal_order.proofs.PushedLaws.{listed-length}
-use Rattle.causal_order.proofs.PathsLaws.{leads-edge, leads-leads, leads-within}
-use Rattle.causal_order.proofs.WaitsLead.{first-leads}
-use Rattle.bad_patterns.specs.Patterns.{IsCyclicPath}
+use Rattle.model_history.specs.declared.op_id.OpId.{OpId}
+use Rattle.model_history.specs.History.{IsOp, Precedes, session}
+use Rattle.order_memory.specs.Memory.{MemoryHistory, IsDifferentiated}
+use Rattle.order_memory.specs.Relations.{IsEdge, ReadsFrom}
+use Rattle.order_causal.specs.Orders.{Leads}
+use Rattle.order_memory.specs.SourceOrder.{IsCyclic}
+use Rattle.order_memory.specs.Sources.{Sources, HasSource, AreListed}
+use Rattle.order_memory.specs.Steps.Indexed.{IsSourceIfAny, ListsSourcesIfAny}
+use Rattle.order_causal.specs.Vectors.{IsListed, Counts}
+use Rattle.order_causal.specs.Waits.{AreAlike, AreWaits, AreWaitsFor, IsAwaited, IsWaitEdge, IsWaitingCycle}
+use Rattle.order_memory.proofs.MemoryLaws.{read-of_history, same_read, write-of_history, write-or_read}
+use Rattle.order_causal.proofs.PushedLaws.{listed-length}
+use Rattle.order_causal.proofs.PathsLaws.{leads-edge, leads-leads, leads-within}
+use Rattle.order_causal.proofs.WaitsLead.{first-leads}
+use Rattle.pattern_check.specs.Patterns.{IsCyclicPath}
 
 module _ (h : MemoryHistory) (sources : Sources) (lists : ListsSourcesIfAny h sources) where
   known-length : (s : ℕ) → length (get_or sources s []) ≡ length (session h s)

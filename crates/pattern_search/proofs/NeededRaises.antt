@@ -4,13 +4,13 @@ use Rattle.std.specs.Prelude.{MatchOption, None, Option, Some, slice_get, ◌≢
 use Rattle.std.proofs.lemmas.Bool.{cases_eq, true≢false}
 use Rattle.std.proofs.lemmas.List.{length-set}
 use Rattle.std.proofs.lemmas.Option.{same_Some}
-use Rattle.history.specs.declared.op_id.OpId.{OpId}
-use Rattle.memory_order.specs.declared.growing_order.Cause.{Cause}
-use Rattle.memory_order.specs.declared.growing_order.Cause.TheVariants.{Through, Read}
-use Rattle.memory_order.specs.declared.growing_order.Raise.{Raise}
-use Rattle.memory_order.specs.Memory.{MemoryHistory}
-use Rattle.memory_order.specs.SourceOrder.{SourceOrder}
-use Rattle.bad_patterns.specs.Derivations.{Pair}
+use Rattle.model_history.specs.declared.op_id.OpId.{OpId}
+use Rattle.order_memory.specs.declared.growing_order.Cause.{Cause}
+use Rattle.order_memory.specs.declared.growing_order.Cause.TheVariants.{Through, Read}
+use Rattle.order_memory.specs.declared.growing_order.Raise.{Raise}
+use Rattle.order_memory.specs.Memory.{MemoryHistory}
+use Rattle.order_memory.specs.SourceOrder.{SourceOrder}
+use Rattle.pattern_check.specs.Derivations.{Pair}
 use Rattle.pattern_search.specs.Steps.Reasons.{AreClosedFrom, ArePremises, IsBefore, IsFirstRaise, IsMarked, IsRaisedBy, MarksBelow, RestsOn, last_of}
 use Rattle.pattern_search.proofs.PlacedLists.{none-marked, set-apart, set-kept}
 

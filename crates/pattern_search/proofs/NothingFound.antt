@@ -1,17 +1,17 @@
 -- Which kinds are present in a memory history, by what a search for them found.
 use Rattle.std.specs.Prelude.{◌≢◌, ◌⊎◌, IsTrue, Some, true}
 use Rattle.std.proofs.Common.{⊎_elim, inl, inr, refl}
-use Rattle.history.specs.declared.op_id.OpId.{OpId}
+use Rattle.model_history.specs.declared.op_id.OpId.{OpId}
 use Rattle.cert_check.specs.declared.criterion.Criterion.{Criterion}
 use Rattle.cert_check.specs.declared.criterion.Criterion.TheVariants.{Cc, Cm, Ccv}
-use Rattle.memory_order.specs.Memory.{MemoryHistory}
-use Rattle.memory_order.specs.OverwrittenReads.{HasOverwrittenRead, HasOverwrittenStart}
-use Rattle.memory_order.specs.SourceOrder.{IsCyclic, LacksSource, SourceOrder}
-use Rattle.memory_order.specs.Steps.Indexed.{IsOrdered, IsUnordered}
-use Rattle.memory_order.proofs.FirstWrites.{CO-by_sources, CO-from_sources}
-use Rattle.bad_patterns.specs.declared.kind.Kind.{Kind}
-use Rattle.bad_patterns.specs.declared.kind.Kind.TheVariants.{CyclicCO, ThinAirRead, WriteCOInitRead, WriteCORead, WriteHBInitRead, CyclicHB, CyclicCF}
-use Rattle.bad_patterns.specs.Kinds.{is_against, IsFreeOf, IsThinAirRead, Shows}
+use Rattle.order_memory.specs.Memory.{MemoryHistory}
+use Rattle.order_memory.specs.OverwrittenReads.{HasOverwrittenRead, HasOverwrittenStart}
+use Rattle.order_memory.specs.SourceOrder.{IsCyclic, LacksSource, SourceOrder}
+use Rattle.order_memory.specs.Steps.Indexed.{IsOrdered, IsUnordered}
+use Rattle.order_memory.proofs.FirstWrites.{CO-by_sources, CO-from_sources}
+use Rattle.pattern_check.specs.declared.kind.Kind.{Kind}
+use Rattle.pattern_check.specs.declared.kind.Kind.TheVariants.{CyclicCO, ThinAirRead, WriteCOInitRead, WriteCORead, WriteHBInitRead, CyclicHB, CyclicCF}
+use Rattle.pattern_check.specs.Kinds.{is_against, IsFreeOf, IsThinAirRead, Shows}
 use Rattle.pattern_search.specs.Searches.{HasLargeHB, IsClear, IsFreeOrLarge}
 
 -- what is against causal consistency is against causal memory

@@ -3,22 +3,22 @@ use Rattle.std.proofs.Common.{◌≡◌, ◌⊎◌, ℕ, zero, suc, ◌+◌, ◌
 use Rattle.std.specs.Prelude.{Some, slice_get}
 use Rattle.std.proofs.lemmas.Bool.{cases_eq}
 use Rattle.std.proofs.lemmas.Option.{slice_get_within}
-use Rattle.history.specs.declared.op_id.OpId.{OpId}
-use Rattle.history.specs.History.{IsOp, Precedes}
-use Rattle.memory_order.specs.declared.growing_order.Cause.{Cause}
-use Rattle.memory_order.specs.declared.growing_order.Cause.TheVariants.{Through, Read}
-use Rattle.memory_order.specs.declared.growing_order.Raise.{Raise}
-use Rattle.memory_order.specs.Memory.{MemoryHistory, IsDifferentiated}
-use Rattle.memory_order.specs.Relations.{CO, HB, IsPast}
-use Rattle.memory_order.specs.SourceOrder.{CountsSourceOrder, IsSourceEdge, SourceOrder}
-use Rattle.memory_order.specs.Steps.HappenedBefores.{AreStrictOf}
-use Rattle.memory_order.specs.Steps.Indexed.{IsSourcePast}
-use Rattle.causal_order.specs.Vectors.{Counts, count, IsCounted}
-use Rattle.memory_order.proofs.FirstWrites.{CO-by_sources, CO-from_sources}
-use Rattle.memory_order.proofs.HappenedBeforeLaws.{HB-inside, past-of_history, past-program}
-use Rattle.causal_order.proofs.OrdersLaws.{same_op}
-use Rattle.causal_order.proofs.PathsLaws.{leads-edge, leads-leads}
-use Rattle.memory_order.specs.Raises.{AreRightRaises, IsReached, IsRightCause, operation_of}
+use Rattle.model_history.specs.declared.op_id.OpId.{OpId}
+use Rattle.model_history.specs.History.{IsOp, Precedes}
+use Rattle.order_memory.specs.declared.growing_order.Cause.{Cause}
+use Rattle.order_memory.specs.declared.growing_order.Cause.TheVariants.{Through, Read}
+use Rattle.order_memory.specs.declared.growing_order.Raise.{Raise}
+use Rattle.order_memory.specs.Memory.{MemoryHistory, IsDifferentiated}
+use Rattle.order_memory.specs.Relations.{CO, HB, IsPast}
+use Rattle.order_memory.specs.SourceOrder.{CountsSourceOrder, IsSourceEdge, SourceOrder}
+use Rattle.order_memory.specs.Steps.HappenedBefores.{AreStrictOf}
+use Rattle.order_memory.specs.Steps.Indexed.{IsSourcePast}
+use Rattle.order_causal.specs.Vectors.{Counts, count, IsCounted}
+use Rattle.order_memory.proofs.FirstWrites.{CO-by_sources, CO-from_sources}
+use Rattle.order_memory.proofs.HappenedBeforeLaws.{HB-inside, past-of_history, past-program}
+use Rattle.order_causal.proofs.OrdersLaws.{same_op}
+use Rattle.order_causal.proofs.PathsLaws.{leads-edge, leads-leads}
+use Rattle.order_memory.specs.Raises.{AreRightRaises, IsReached, IsRightCause, operation_of}
 use Rattle.pattern_search.specs.Steps.Reasons.{AreGrounded, ArePremises, IsBefore, IsPremise, IsRaisedBy, IsRule, RestsOn, last_of}
 use Rattle.pattern_search.specs.Steps.Relations.{IsRelation}
 use Rattle.pattern_search.proofs.NeededRaises.{rests-each}

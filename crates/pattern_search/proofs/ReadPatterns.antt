@@ -2,25 +2,25 @@
 use Rattle.std.proofs.Common.{◌≡◌, ℕ, ◌+◌, ◌<◌, ◌≤◌, List, length, inl, inr, ⊎_elim, refl, arith, ap, sym, ◌∙◌, subst, eq-or-lt_of_le}
 use Rattle.std.specs.Prelude.{◌≢◌, Option, Some, None, slice_get}
 use Rattle.std.proofs.lemmas.Option.{same_Some}
-use Rattle.history.specs.declared.op_id.OpId.{OpId}
-use Rattle.history.specs.History.{IsOp}
-use Rattle.memory_order.specs.declared.known_reads.KnownRead.{KnownRead}
-use Rattle.memory_order.specs.Memory.{MemoryHistory, initial, Writes, Reads, IsDifferentiated}
-use Rattle.causal_order.specs.Orders.{op}
-use Rattle.memory_order.specs.OverwrittenReads.{HasOverwrittenRead, HasOverwrittenStart}
-use Rattle.memory_order.specs.Relations.{ReadsFrom}
-use Rattle.memory_order.specs.SourceOrder.{IsSourceEdge, LacksSource, SourceOrder}
-use Rattle.memory_order.specs.Steps.Indexed.{HasNoWriteOfPast, IsKnownRead, IsLastWriteOfPast, IsSourceIfAny, IsSourcePast, ListsReads}
-use Rattle.memory_order.proofs.CausalOrders.{later-of_history}
-use Rattle.memory_order.proofs.Elements.{at-listed}
-use Rattle.memory_order.proofs.FirstWrites.{CO-by_sources, distinct-source}
-use Rattle.memory_order.proofs.GrowingOrdersLaws.{SourceOrder-of_history}
-use Rattle.memory_order.proofs.IndexedLaws.{if_any-source, if_any-unique}
-use Rattle.memory_order.proofs.MemoryLaws.{same_read, same_written, write-or_read}
-use Rattle.causal_order.proofs.OrdersLaws.{same_op, session-of_history}
-use Rattle.causal_order.proofs.PathsLaws.{leads-last}
-use Rattle.bad_patterns.specs.Paths.{GoesFrom}
-use Rattle.bad_patterns.specs.Patterns.{ArePathsToOverwrittenRead, IsPathToInitialRead}
+use Rattle.model_history.specs.declared.op_id.OpId.{OpId}
+use Rattle.model_history.specs.History.{IsOp}
+use Rattle.order_memory.specs.declared.known_reads.KnownRead.{KnownRead}
+use Rattle.order_memory.specs.Memory.{MemoryHistory, initial, Writes, Reads, IsDifferentiated}
+use Rattle.order_causal.specs.Orders.{op}
+use Rattle.order_memory.specs.OverwrittenReads.{HasOverwrittenRead, HasOverwrittenStart}
+use Rattle.order_memory.specs.Relations.{ReadsFrom}
+use Rattle.order_memory.specs.SourceOrder.{IsSourceEdge, LacksSource, SourceOrder}
+use Rattle.order_memory.specs.Steps.Indexed.{HasNoWriteOfPast, IsKnownRead, IsLastWriteOfPast, IsSourceIfAny, IsSourcePast, ListsReads}
+use Rattle.order_memory.proofs.CausalOrders.{later-of_history}
+use Rattle.order_memory.proofs.Elements.{at-listed}
+use Rattle.order_memory.proofs.FirstWrites.{CO-by_sources, distinct-source}
+use Rattle.order_memory.proofs.GrowingOrdersLaws.{SourceOrder-of_history}
+use Rattle.order_memory.proofs.IndexedLaws.{if_any-source, if_any-unique}
+use Rattle.order_memory.proofs.MemoryLaws.{same_read, same_written, write-or_read}
+use Rattle.order_causal.proofs.OrdersLaws.{same_op, session-of_history}
+use Rattle.order_causal.proofs.PathsLaws.{leads-last}
+use Rattle.pattern_check.specs.Paths.{GoesFrom}
+use Rattle.pattern_check.specs.Patterns.{ArePathsToOverwrittenRead, IsPathToInitialRead}
 use Rattle.pattern_search.specs.Steps.Routes.{AreWritesBefore, IsWriteBefore}
 
 module _ (h : MemoryHistory) where

@@ -3,17 +3,17 @@ use Rattle.std.proofs.Common.{◌≡◌, ℕ, suc, ◌+◌, ◌-◌, ◌<◌, �
 use Rattle.std.specs.Prelude.{◌≢◌, reverse, slice_get}
 use Rattle.std.proofs.lemmas.List.{reverse-append}
 use Rattle.std.proofs.lemmas.Option.{slice_get_within}
-use Rattle.history.specs.declared.op_id.OpId.{OpId}
-use Rattle.history.specs.History.{IsOp, Precedes}
-use Rattle.memory_order.specs.Memory.{MemoryHistory}
-use Rattle.memory_order.specs.Relations.{IsEdge}
-use Rattle.memory_order.specs.SourceOrder.{CountsSourceOrder, IsSource, IsSourceEdge, SourceOrder}
-use Rattle.causal_order.specs.Vectors.{Counts, count, IsCounted}
-use Rattle.memory_order.proofs.CausalOrders.{counted-past}
-use Rattle.causal_order.proofs.OrdersLaws.{same_op}
-use Rattle.causal_order.proofs.PathsLaws.{leads-edge, leads-last, path-first}
-use Rattle.memory_order.proofs.SourceVectors.{own-count}
-use Rattle.bad_patterns.specs.Paths.{GoesFrom}
+use Rattle.model_history.specs.declared.op_id.OpId.{OpId}
+use Rattle.model_history.specs.History.{IsOp, Precedes}
+use Rattle.order_memory.specs.Memory.{MemoryHistory}
+use Rattle.order_memory.specs.Relations.{IsEdge}
+use Rattle.order_memory.specs.SourceOrder.{CountsSourceOrder, IsSource, IsSourceEdge, SourceOrder}
+use Rattle.order_causal.specs.Vectors.{Counts, count, IsCounted}
+use Rattle.order_memory.proofs.CausalOrders.{counted-past}
+use Rattle.order_causal.proofs.OrdersLaws.{same_op}
+use Rattle.order_causal.proofs.PathsLaws.{leads-edge, leads-last, path-first}
+use Rattle.order_memory.proofs.SourceVectors.{own-count}
+use Rattle.pattern_check.specs.Paths.{GoesFrom}
 use Rattle.pattern_search.specs.Steps.Routes.{IsFirstCounting, IsPushedApart}
 
 module _ (h : MemoryHistory) where

@@ -2,26 +2,26 @@
 use Rattle.std.proofs.Common.{◌≡◌, ℕ, ◌+◌, ◌-◌, ◌<◌, ◌≤◌, List, Ok, Err, Result, length, inl, inr, ⊎_elim, refl, sym, arith, lt-ltb, ltb-true, subst, eq-or-lt_of_le}
 use Rattle.std.specs.Prelude.{◌⊎◌, IfOk, IsTrue, None, Option, Some}
 use Rattle.std.proofs.lemmas.Bool.{cases_lt}
-use Rattle.history.specs.declared.op_id.OpId.{OpId}
-use Rattle.history.specs.History.{IsOp, session}
-use Rattle.memory_order.specs.declared.growing_order.Raise.{Raise}
-use Rattle.memory_order.specs.HappenedBeforePatterns.{HasHBCycle, HasStartOverwrittenInHB}
-use Rattle.memory_order.specs.Memory.{MemoryHistory, IsDifferentiated}
-use Rattle.memory_order.specs.Relations.{HB}
-use Rattle.causal_order.specs.Orders.{op, program_past}
-use Rattle.causal_order.specs.Vectors.{Counts, count}
-use Rattle.memory_order.specs.Steps.HappenedBefores.{HasMorePairs}
-use Rattle.memory_order.proofs.HappenedBeforeLaws.{HB-earlier, HB-of_history, in_past-from, in_past-true, past-of_history, past-past, past-program, program_past-earlier, program_past-from}
-use Rattle.memory_order.proofs.HappenedBeforeVectors.{supported-strict}
-use Rattle.causal_order.proofs.OrdersLaws.{session-of_history}
-use Rattle.bad_patterns.specs.declared.derivation.Line.{Line}
-use Rattle.bad_patterns.specs.declared.kind.Kind.{Kind}
-use Rattle.bad_patterns.specs.declared.kind.Kind.TheVariants.{WriteHBInitRead, CyclicHB}
-use Rattle.bad_patterns.specs.declared.pattern.Pattern.TheVariants as patterns
-use Rattle.bad_patterns.specs.declared.pattern.Pattern.{Pattern as BadPattern}
-use Rattle.bad_patterns.specs.Derivations.{IsDerivation}
-use Rattle.bad_patterns.specs.Kinds.{is_against}
-use Rattle.bad_patterns.specs.Patterns.{IsBadPattern, kind_of}
+use Rattle.model_history.specs.declared.op_id.OpId.{OpId}
+use Rattle.model_history.specs.History.{IsOp, session}
+use Rattle.order_memory.specs.declared.growing_order.Raise.{Raise}
+use Rattle.order_memory.specs.HappenedBeforePatterns.{HasHBCycle, HasStartOverwrittenInHB}
+use Rattle.order_memory.specs.Memory.{MemoryHistory, IsDifferentiated}
+use Rattle.order_memory.specs.Relations.{HB}
+use Rattle.order_causal.specs.Orders.{op, program_past}
+use Rattle.order_causal.specs.Vectors.{Counts, count}
+use Rattle.order_memory.specs.Steps.HappenedBefores.{HasMorePairs}
+use Rattle.order_memory.proofs.HappenedBeforeLaws.{HB-earlier, HB-of_history, in_past-from, in_past-true, past-of_history, past-past, past-program, program_past-earlier, program_past-from}
+use Rattle.order_memory.proofs.HappenedBeforeVectors.{supported-strict}
+use Rattle.order_causal.proofs.OrdersLaws.{session-of_history}
+use Rattle.pattern_check.specs.declared.derivation.Line.{Line}
+use Rattle.pattern_check.specs.declared.kind.Kind.{Kind}
+use Rattle.pattern_check.specs.declared.kind.Kind.TheVariants.{WriteHBInitRead, CyclicHB}
+use Rattle.pattern_check.specs.declared.pattern.Pattern.TheVariants as patterns
+use Rattle.pattern_check.specs.declared.pattern.Pattern.{Pattern as BadPattern}
+use Rattle.pattern_check.specs.Derivations.{IsDerivation}
+use Rattle.pattern_check.specs.Kinds.{is_against}
+use Rattle.pattern_check.specs.Patterns.{IsBadPattern, kind_of}
 use Rattle.cert_check.specs.declared.criterion.Criterion.{Criterion}
 use Rattle.cert_check.specs.declared.criterion.Criterion.TheVariants.{Cc, Cm, Ccv}
 use Rattle.pattern_search.specs.declared.searched.Searched.{Searched}

@@ -1,11 +1,11 @@
 -- Which kind a search for bad patterns names, of those that are present: the first, in the order in which the kinds are listed
 -- here. (This project's profile.)
 use Rattle.std.specs.Prelude.{◌≡◌, ◌⊎◌, ℕ, ◌<◌, IsTrue, Some}
-use Rattle.bad_patterns.specs.declared.kind.Kind.{Kind}
-use Rattle.bad_patterns.specs.declared.kind.Kind.TheVariants.{CyclicCO, ThinAirRead, WriteCOInitRead, WriteCORead, WriteHBInitRead, CyclicHB, CyclicCF}
-use Rattle.bad_patterns.specs.Kinds.{is_against, IsPresent}
+use Rattle.pattern_check.specs.declared.kind.Kind.{Kind}
+use Rattle.pattern_check.specs.declared.kind.Kind.TheVariants.{CyclicCO, ThinAirRead, WriteCOInitRead, WriteCORead, WriteHBInitRead, CyclicHB, CyclicCF}
+use Rattle.pattern_check.specs.Kinds.{is_against, IsPresent}
 use Rattle.cert_check.specs.declared.criterion.Criterion.{Criterion}
-use Rattle.memory_order.specs.Memory.{MemoryHistory}
+use Rattle.order_memory.specs.Memory.{MemoryHistory}
 use Rattle.pattern_search.specs.declared.search.derivations.TheConstants.{MAX_RAISES}
 use Rattle.pattern_search.specs.Searches.{HasLargeHB}
 

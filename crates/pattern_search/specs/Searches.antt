@@ -1,19 +1,19 @@
 -- What a search of the happened-before relations of a memory history comes to.
 use Rattle.std.specs.Prelude.{◌≡◌, ◌⊎◌, ℕ, MatchOption, Option, Some}
 use Rattle.pattern_search.specs.declared.search.derivations.TheConstants.{MAX_RAISES}
-use Rattle.history.specs.declared.op_id.OpId.{OpId}
-use Rattle.history.specs.History.{IsOp}
+use Rattle.model_history.specs.declared.op_id.OpId.{OpId}
+use Rattle.model_history.specs.History.{IsOp}
 use Rattle.cert_check.specs.declared.criterion.Criterion.TheVariants.{Cm}
-use Rattle.memory_order.specs.HappenedBeforePatterns.{HasHBCycle, HasStartOverwrittenInHB}
-use Rattle.memory_order.specs.Memory.{MemoryHistory}
-use Rattle.memory_order.specs.Steps.HappenedBefores.{HasMorePairs}
+use Rattle.order_memory.specs.HappenedBeforePatterns.{HasHBCycle, HasStartOverwrittenInHB}
+use Rattle.order_memory.specs.Memory.{MemoryHistory}
+use Rattle.order_memory.specs.Steps.HappenedBefores.{HasMorePairs}
 use Rattle.pattern_search.specs.declared.searched.Searched.{Searched}
 use Rattle.pattern_search.specs.declared.searched.Searched.TheVariants.{Pattern, Present, Open, Nothing}
 use Rattle.pattern_search.specs.declared.searched.SearchedKinds.{SearchedKinds}
-use Rattle.bad_patterns.specs.declared.kind.Kind.{Kind}
-use Rattle.bad_patterns.specs.declared.kind.Kind.TheVariants.{WriteHBInitRead, CyclicHB}
-use Rattle.bad_patterns.specs.Kinds.{IsFreeOf, IsPresent}
-use Rattle.bad_patterns.specs.Patterns.{IsBadPattern, kind_of}
+use Rattle.pattern_check.specs.declared.kind.Kind.{Kind}
+use Rattle.pattern_check.specs.declared.kind.Kind.TheVariants.{WriteHBInitRead, CyclicHB}
+use Rattle.pattern_check.specs.Kinds.{IsFreeOf, IsPresent}
+use Rattle.pattern_check.specs.Patterns.{IsBadPattern, kind_of}
 
 module _ (h : MemoryHistory) where
   -- an operation whose happened-before relation has more than so many pairs that the causal order doesn't have, if a number

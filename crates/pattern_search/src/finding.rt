@@ -1,27 +1,27 @@
 //! The search for a pattern against a criterion, kind by kind.
 
 ghost use Rattle.std.specs.Prelude.{◌≡◌, ◌↔◌, ◌≢◌, ℕ, IfNone, IfOk, IfSome, IsTrue, MatchOption};
-ghost use Rattle.bad_patterns.specs.Kinds.{IsFreeOf, IsThinAirRead, Shows, is_against};
-ghost use Rattle.bad_patterns.specs.Patterns.{IsBadPattern, kind_of};
+ghost use Rattle.pattern_check.specs.Kinds.{IsFreeOf, IsThinAirRead, Shows, is_against};
+ghost use Rattle.pattern_check.specs.Patterns.{IsBadPattern, kind_of};
 ghost use Rattle.pattern_search.specs.FirstKinds.{ComesFirst, ComesFirstForEach, ComesFirstOrLarge};
 ghost use Rattle.pattern_search.specs.Searches.{IsFreeOrLarge};
 ghost use Rattle.pattern_search.specs.Steps.Found.{IsFirst, IsFirstFound, IsFirstOf};
-ghost use Rattle.bad_patterns.specs.declared.kind.Kind.TheVariants.{CyclicCF};
-ghost use Rattle.memory_order.specs.Memory.{IsDifferentiated};
-ghost use Rattle.causal_order.specs.Orders.{op};
-ghost use Rattle.memory_order.specs.OverwrittenReads.{HasOverwrittenRead, HasOverwrittenStart};
-ghost use Rattle.memory_order.specs.Steps.Indexed.{IsOrdered, IsUnordered};
-ghost use Rattle.memory_order.specs.Steps.Written.{IsSorted, ListsWrites};
+ghost use Rattle.pattern_check.specs.declared.kind.Kind.TheVariants.{CyclicCF};
+ghost use Rattle.order_memory.specs.Memory.{IsDifferentiated};
+ghost use Rattle.order_causal.specs.Orders.{op};
+ghost use Rattle.order_memory.specs.OverwrittenReads.{HasOverwrittenRead, HasOverwrittenStart};
+ghost use Rattle.order_memory.specs.Steps.Indexed.{IsOrdered, IsUnordered};
+ghost use Rattle.order_memory.specs.Steps.Written.{IsSorted, ListsWrites};
 ghost use Rattle.cert_check.specs.declared.criterion.Criterion.{Criterion as AnyCriterion};
 ghost use Rattle.cert_check.specs.declared.criterion.Criterion.TheVariants.{Cc, Cm};
 
 use crate::finding_happened_before::find_happened_before;
 use crate::search::{cycle_with_conflicts, cyclic_order, overwritten_read, overwritten_start};
-use bad_patterns::{Kind, Pattern, is_thin_air_read};
 use cert_check::Criterion;
-use history::{History, OpId};
-use memory_order::{CausalOrder, IndexedMemory, Write};
-use objects::Memory;
+use model_history::{History, OpId};
+use model_objects::Memory;
+use order_memory::{CausalOrder, IndexedMemory, Write};
+use pattern_check::{Kind, Pattern, is_thin_air_read};
 use std::alloc::{AllocError, Global};
 
 /// A pattern that shows that the history does not meet the criterion, where the search finds one.

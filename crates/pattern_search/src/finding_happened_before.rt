@@ -1,21 +1,21 @@
 //! The search for patterns that happened-before relations show.
 
 ghost use Rattle.std.specs.Prelude.{◌⊎◌, ◌+◌, ◌<◌, ◌≡◌, ℕ, length, IfNone, IfOk, IfSome, Option, Some};
-ghost use Rattle.bad_patterns.specs.Patterns.{IsBadPattern, kind_of};
-ghost use Rattle.bad_patterns.specs.declared.kind.Kind.TheVariants.{CyclicHB, WriteHBInitRead};
+ghost use Rattle.pattern_check.specs.Patterns.{IsBadPattern, kind_of};
+ghost use Rattle.pattern_check.specs.declared.kind.Kind.TheVariants.{CyclicHB, WriteHBInitRead};
 ghost use Rattle.cert_check.specs.declared.criterion.Criterion.TheVariants.{Cm};
 ghost use Rattle.pattern_search.specs.Searches.{AreSearched, ComesTo, HasLargeHB, IsClear};
 ghost use Rattle.pattern_search.specs.Steps.Found.{AreSearchedBefore, IsFirstHappened};
 ghost use Rattle.pattern_search.specs.Steps.Relations.{HasNoCycle, HasNoCycleBefore, HasNoStart};
 ghost use Rattle.pattern_search.specs.Steps.Relations.{IsRelation, IsRelationOfLast};
-ghost use Rattle.memory_order.specs.HappenedBeforePatterns.{HasHBCycle, HasStartOverwrittenInHB};
-ghost use Rattle.memory_order.specs.Memory.{IsDifferentiated};
+ghost use Rattle.order_memory.specs.HappenedBeforePatterns.{HasHBCycle, HasStartOverwrittenInHB};
+ghost use Rattle.order_memory.specs.Memory.{IsDifferentiated};
 
 use crate::search::{MAX_RAISES, Relation, cycle_in, derivation_of, overwritten_start_in};
 use crate::searched::{Searched, SearchedKinds};
-use bad_patterns::{Kind, Pattern};
 use cert_check::Criterion;
-use memory_order::{CausalOrder, MAX_PAIRS};
+use order_memory::{CausalOrder, MAX_PAIRS};
+use pattern_check::{Kind, Pattern};
 use std::alloc::{AllocError, Global};
 
 /// A pattern of one of the kinds that rest on happened-before relations, where those are against the criterion.

@@ -1,7 +1,7 @@
-//! The search for bad patterns. What it gives passes the test of `bad_patterns::check_pattern`.
+//! The search for bad patterns. What it gives passes the test of `pattern_check::check_pattern`.
 //!
 //! [`find`] and [`find_in`] search for a pattern against a criterion, and [`search_happened_before`] says what happened-before relations
-//! show ([`SearchedKinds`]). It uses bad_patterns, memory_order.
+//! show ([`SearchedKinds`]). It uses pattern_check, order_memory.
 //! How the search goes may change: callers rest on the contracts alone.
 #![tactic(auto)]
 

@@ -3,7 +3,7 @@
 ghost use Rattle.std.specs.Prelude.{◌≡◌, ◌↔◌, IsTrue};
 ghost use Rattle.pattern_search.specs.Searches.{HasPattern, either};
 
-use bad_patterns::Pattern;
+use pattern_check::Pattern;
 
 /// The result of a search of happened-before relations for one kind.
 #[derive(Debug, Drop)]

@@ -1,8 +1,8 @@
 -- The first operation of a session that is not explained, as the functions of the checker speak of it among themselves.
 use Rattle.std.specs.Prelude.{◌≡◌, ℕ, ◌<◌, Option, MatchOption}
-use Rattle.history.specs.declared.op_id.OpId.{OpId}
-use Rattle.history.specs.History.{HistoryValue, IsOp}
-use Rattle.causal_order.specs.Orders.{op}
+use Rattle.model_history.specs.declared.op_id.OpId.{OpId}
+use Rattle.model_history.specs.History.{HistoryValue, IsOp}
+use Rattle.order_causal.specs.Orders.{op}
 
 module _ {S C R : Type 0} where
   -- it is the first operation of the session s that is not explained, or there is none

@@ -1,11 +1,11 @@
 -- Lists of session numbers that name operations one after another, which the functions of the checker speak of among
 -- themselves.
 use Rattle.std.specs.Prelude.{◌≡◌, ◌≢◌, ℕ, ◌<◌, List, length, slice_index_or, take}
-use Rattle.history.specs.declared.op_id.OpId.{OpId}
-use Rattle.history.specs.History.{HistoryValue, IsOp}
-use Rattle.causal_order.specs.Orders.{StandsAt}
-use Rattle.causal_order.specs.Vectors.{Counts, IsCounted}
-use Rattle.causal_order.specs.Schedules.{placed}
+use Rattle.model_history.specs.declared.op_id.OpId.{OpId}
+use Rattle.model_history.specs.History.{HistoryValue, IsOp}
+use Rattle.order_causal.specs.Orders.{StandsAt}
+use Rattle.order_causal.specs.Vectors.{Counts, IsCounted}
+use Rattle.order_causal.specs.Schedules.{placed}
 use Rattle.cert_check.specs.Schedules.{named, StandsBefore}
 
 -- counts of n sessions: how often the first i numbers of a list name each

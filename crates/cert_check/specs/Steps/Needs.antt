@@ -1,9 +1,9 @@
 -- What must have been named before an operation, where all that was named came after what its own vector counts: one
 -- operation of another session stands for all that it counts.
 use Rattle.std.specs.Prelude.{⊤, ◌≡◌, ◌≢◌, ◌⊎◌, ℕ, zero, suc, ◌+◌, ◌<◌, ◌≤◌, List, [], slice_index_or}
-use Rattle.history.specs.declared.op_id.OpId.{OpId}
-use Rattle.causal_order.specs.Orders.{op}
-use Rattle.causal_order.specs.Vectors.{Counts, count, list_of}
+use Rattle.model_history.specs.declared.op_id.OpId.{OpId}
+use Rattle.order_causal.specs.Orders.{op}
+use Rattle.order_causal.specs.Vectors.{Counts, count, list_of}
 use Rattle.cert_check.specs.declared.need.Need.{Need}
 use Rattle.cert_check.specs.declared.need.Need.TheVariants.{Nothing, After, Everything}
 

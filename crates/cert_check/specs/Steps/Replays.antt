@@ -1,11 +1,11 @@
 -- Replays over a list of session numbers, which the functions of the checker speak of among themselves.
 use Rattle.std.specs.Prelude.{◌≡◌, ℕ, ◌<◌, Bool, IsTrue, List, Option, Some, filter, length, option_map, take}
-use Rattle.history.specs.declared.op_id.OpId.{OpId}
-use Rattle.history.specs.History.{HistoryValue, IsOp, calls, entry}
-use Rattle.causal_order.specs.Orders.{Ops, StandsAt, only, program_past}
+use Rattle.model_history.specs.declared.op_id.OpId.{OpId}
+use Rattle.model_history.specs.History.{HistoryValue, IsOp, calls, entry}
+use Rattle.order_causal.specs.Orders.{Ops, StandsAt, only, program_past}
 use Rattle.cert_check.specs.declared.kept.Kept.{Kept}
 use Rattle.cert_check.specs.declared.kept.Kept.TheVariants.{Only, ProgramPast}
-use Rattle.causal_order.specs.Vectors.{Counts}
+use Rattle.order_causal.specs.Vectors.{Counts}
 use Rattle.cert_check.specs.Certificates.{counted}
 use Rattle.cert_check.specs.Schedules.{named}
 use Rattle.cert_check.specs.Steps.Namings.{AreCountsAt}

@@ -1,9 +1,9 @@
 -- What is known between one piece and the next, in terms of the checker's own data.
 use Rattle.std.specs.Prelude.{⊤, ◌≡◌, ℕ, List, Some, length}
-use Rattle.history.specs.declared.op_id.OpId.{OpId}
-use Rattle.history.specs.History.{HistoryValue}
-use Rattle.causal_order.specs.Orders.{program_past}
-use Rattle.causal_order.specs.Vectors.{AreVectorsOf, Counts}
+use Rattle.model_history.specs.declared.op_id.OpId.{OpId}
+use Rattle.model_history.specs.History.{HistoryValue}
+use Rattle.order_causal.specs.Orders.{program_past}
+use Rattle.order_causal.specs.Vectors.{AreVectorsOf, Counts}
 use Rattle.cert_check.specs.declared.certificate.Certificate.{Certificate}
 use Rattle.cert_check.specs.declared.certificate.Certificate.TheVariants.{Cc, Cm, Ccv}
 use Rattle.cert_check.specs.declared.need.Need.{Need}

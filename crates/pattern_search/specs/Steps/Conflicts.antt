@@ -2,14 +2,14 @@
 --
 -- Private functions alone name these in their contracts: what a pattern is and what it shows does not rest on them.
 use Rattle.std.specs.Prelude.{◌≡◌, ◌≢◌, ◌⊎◌, ℕ, ◌+◌, ◌-◌, ◌<◌, List, length, Some, slice_get}
-use Rattle.history.specs.declared.op_id.OpId.{OpId}
-use Rattle.memory_order.specs.declared.known_reads.KnownRead.{KnownRead}
-use Rattle.memory_order.specs.Memory.{MemoryHistory}
-use Rattle.causal_order.specs.Orders.{StandsAt, IsPath}
-use Rattle.memory_order.specs.Relations.{AreRivalWrites, IsEdge, ReadsFrom}
-use Rattle.memory_order.specs.Steps.Indexed.{IsKnownRead, IsLastWriteOfPast, IsSourcePast}
-use Rattle.bad_patterns.specs.declared.link.Link.{Link}
-use Rattle.bad_patterns.specs.Paths.{begin_of, end_of, IsLink}
+use Rattle.model_history.specs.declared.op_id.OpId.{OpId}
+use Rattle.order_memory.specs.declared.known_reads.KnownRead.{KnownRead}
+use Rattle.order_memory.specs.Memory.{MemoryHistory}
+use Rattle.order_causal.specs.Orders.{StandsAt, IsPath}
+use Rattle.order_memory.specs.Relations.{AreRivalWrites, IsEdge, ReadsFrom}
+use Rattle.order_memory.specs.Steps.Indexed.{IsKnownRead, IsLastWriteOfPast, IsSourcePast}
+use Rattle.pattern_check.specs.declared.link.Link.{Link}
+use Rattle.pattern_check.specs.Paths.{begin_of, end_of, IsLink}
 
 module _ (h : MemoryHistory) where
   -- a known read reads from b and has another write a of its variable in its past, the last such write of its session

@@ -2,12 +2,12 @@
 --
 -- Private functions alone name these in their contracts: what a pattern is and what it shows does not rest on them.
 use Rattle.std.specs.Prelude.{◌≡◌, ◌⊎◌, ℕ, ◌+◌, ◌*◌, ◌<◌, ◌≤◌, Bool, true, List, length, Some, slice_get}
-use Rattle.history.specs.declared.op_id.OpId.{OpId}
-use Rattle.memory_order.specs.declared.growing_order.Raise.{Raise}
-use Rattle.memory_order.specs.Memory.{MemoryHistory}
-use Rattle.memory_order.specs.SourceOrder.{SourceOrder}
-use Rattle.bad_patterns.specs.declared.derivation.Line.{Line}
-use Rattle.bad_patterns.specs.Derivations.{Pair, GivePairs}
+use Rattle.model_history.specs.declared.op_id.OpId.{OpId}
+use Rattle.order_memory.specs.declared.growing_order.Raise.{Raise}
+use Rattle.order_memory.specs.Memory.{MemoryHistory}
+use Rattle.order_memory.specs.SourceOrder.{SourceOrder}
+use Rattle.pattern_check.specs.declared.derivation.Line.{Line}
+use Rattle.pattern_check.specs.Derivations.{Pair, GivePairs}
 use Rattle.pattern_search.specs.Steps.Reasons.{IsFirstRaise, last_of}
 
 -- lines, and pairs beside them

@@ -2,19 +2,19 @@
 --
 -- What a pattern is and what it shows does not rest on these: they say which one the search answers.
 use Rattle.std.specs.Prelude.{◌≡◌, ◌⊎◌, ℕ, ◌<◌, Option, Some}
-use Rattle.history.specs.declared.op_id.OpId.{OpId}
-use Rattle.bad_patterns.specs.declared.pattern.Pattern.{Pattern}
-use Rattle.bad_patterns.specs.declared.pattern.Pattern.TheVariants.{ThinAirRead}
-use Rattle.memory_order.specs.HappenedBeforePatterns.{HasStartOverwrittenInHB}
-use Rattle.memory_order.specs.Memory.{MemoryHistory}
-use Rattle.bad_patterns.specs.declared.kind.Kind.{Kind}
-use Rattle.bad_patterns.specs.declared.kind.Kind.TheVariants.{WriteHBInitRead, CyclicHB}
+use Rattle.model_history.specs.declared.op_id.OpId.{OpId}
+use Rattle.pattern_check.specs.declared.pattern.Pattern.{Pattern}
+use Rattle.pattern_check.specs.declared.pattern.Pattern.TheVariants.{ThinAirRead}
+use Rattle.order_memory.specs.HappenedBeforePatterns.{HasStartOverwrittenInHB}
+use Rattle.order_memory.specs.Memory.{MemoryHistory}
+use Rattle.pattern_check.specs.declared.kind.Kind.{Kind}
+use Rattle.pattern_check.specs.declared.kind.Kind.TheVariants.{WriteHBInitRead, CyclicHB}
 use Rattle.pattern_search.specs.declared.search.derivations.TheConstants.{MAX_RAISES}
 use Rattle.pattern_search.specs.declared.searched.SearchedKinds.{SearchedKinds}
 use Rattle.pattern_search.specs.Searches.{AreSearched, HasLargeHB}
 use Rattle.pattern_search.specs.Steps.Relations.{HasNoCycleBefore, HasNoStartBefore}
-use Rattle.bad_patterns.specs.Kinds.{IsThinAirRead}
-use Rattle.causal_order.specs.Orders.{op, IsEarlier}
+use Rattle.pattern_check.specs.Kinds.{IsThinAirRead}
+use Rattle.order_causal.specs.Orders.{op, IsEarlier}
 
 -- a thin-air read, and no earlier operation is one
 pub record IsFirst (h : MemoryHistory) (r : OpId) : Type 0 where

@@ -5,16 +5,16 @@ use Rattle.std.specs.Prelude.{◌≡◌, ◌⊎◌, ℕ, ◌+◌, ◌-◌, ◌<�
 use Rattle.std.specs.BTreeMap.{BTreeMap, get}
 use Rattle.std.specs.declared.cmp.Ordering.{Ordering}
 use Rattle.std.specs.Ordering.{nat_cmp, on, then_cmp}
-use Rattle.history.specs.declared.op_id.OpId.{OpId}
-use Rattle.memory_order.specs.declared.growing_order.Cause.{Cause}
-use Rattle.memory_order.specs.declared.growing_order.Cause.TheVariants.{Through, Read}
-use Rattle.memory_order.specs.declared.growing_order.Raise.{Raise}
-use Rattle.memory_order.specs.Memory.{MemoryHistory}
-use Rattle.causal_order.specs.Orders.{op, program_past}
-use Rattle.memory_order.specs.Relations.{AreRivalWrites, ReadsFrom}
-use Rattle.memory_order.specs.SourceOrder.{SourceOrder}
-use Rattle.memory_order.specs.Steps.Indexed.{IsSourcePast}
-use Rattle.bad_patterns.specs.Derivations.{Pair}
+use Rattle.model_history.specs.declared.op_id.OpId.{OpId}
+use Rattle.order_memory.specs.declared.growing_order.Cause.{Cause}
+use Rattle.order_memory.specs.declared.growing_order.Cause.TheVariants.{Through, Read}
+use Rattle.order_memory.specs.declared.growing_order.Raise.{Raise}
+use Rattle.order_memory.specs.Memory.{MemoryHistory}
+use Rattle.order_causal.specs.Orders.{op, program_past}
+use Rattle.order_memory.specs.Relations.{AreRivalWrites, ReadsFrom}
+use Rattle.order_memory.specs.SourceOrder.{SourceOrder}
+use Rattle.order_memory.specs.Steps.Indexed.{IsSourcePast}
+use Rattle.pattern_check.specs.Derivations.{Pair}
 
 -- the last operation that a raise counts
 abbrev pub last_of : Raise → OpId

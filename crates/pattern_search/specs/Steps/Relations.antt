@@ -2,18 +2,18 @@
 --
 -- Private functions alone name these in their contracts: what a pattern is and what it shows does not rest on them.
 use Rattle.std.specs.Prelude.{◌≡◌, ◌⊎◌, ℕ, ◌+◌, ◌<◌, IsTrue, List, length, MatchOption, None, Option}
-use Rattle.history.specs.declared.op_id.OpId.{OpId}
-use Rattle.history.specs.History.{IsOp, session}
-use Rattle.memory_order.specs.declared.growing_order.Raise.{Raise}
-use Rattle.memory_order.specs.declared.known_reads.KnownRead.{KnownRead}
-use Rattle.memory_order.specs.HappenedBeforeVectors.{IsHBVectors}
-use Rattle.memory_order.specs.Memory.{MemoryHistory, initial, Writes, Reads}
-use Rattle.causal_order.specs.Orders.{op, program_past}
-use Rattle.memory_order.specs.Raises.{AreReached, AreRightRaises}
-use Rattle.memory_order.specs.Relations.{HB}
-use Rattle.memory_order.specs.SourceOrder.{CountsSourceOrder}
-use Rattle.memory_order.specs.Steps.HappenedBefores.{AreStrictOf, HasFewPairs, HasMorePairs}
-use Rattle.causal_order.specs.Vectors.{Counts}
+use Rattle.model_history.specs.declared.op_id.OpId.{OpId}
+use Rattle.model_history.specs.History.{IsOp, session}
+use Rattle.order_memory.specs.declared.growing_order.Raise.{Raise}
+use Rattle.order_memory.specs.declared.known_reads.KnownRead.{KnownRead}
+use Rattle.order_memory.specs.HappenedBeforeVectors.{IsHBVectors}
+use Rattle.order_memory.specs.Memory.{MemoryHistory, initial, Writes, Reads}
+use Rattle.order_causal.specs.Orders.{op, program_past}
+use Rattle.order_memory.specs.Raises.{AreReached, AreRightRaises}
+use Rattle.order_memory.specs.Relations.{HB}
+use Rattle.order_memory.specs.SourceOrder.{CountsSourceOrder}
+use Rattle.order_memory.specs.Steps.HappenedBefores.{AreStrictOf, HasFewPairs, HasMorePairs}
+use Rattle.order_causal.specs.Vectors.{Counts}
 
 module _ (h : MemoryHistory) where
   -- the relation of an operation of the history, with vectors that count it, and right raises by which it was made from the

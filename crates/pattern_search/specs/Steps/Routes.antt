@@ -2,12 +2,12 @@
 --
 -- Private functions alone name these in their contracts: what a pattern is and what it shows does not rest on them.
 use Rattle.std.specs.Prelude.{◌≡◌, ◌≢◌, ◌⊎◌, ℕ, ◌+◌, ◌<◌, ◌≤◌, List, [], ◌∷◌, ◌++◌, None, Some}
-use Rattle.history.specs.declared.op_id.OpId.{OpId}
-use Rattle.memory_order.specs.declared.known_reads.KnownRead.{KnownRead}
-use Rattle.memory_order.specs.Memory.{MemoryHistory, Writes}
-use Rattle.causal_order.specs.Orders.{op}
-use Rattle.memory_order.specs.SourceOrder.{SourceOrder}
-use Rattle.causal_order.specs.Vectors.{Counts, IsCounted}
+use Rattle.model_history.specs.declared.op_id.OpId.{OpId}
+use Rattle.order_memory.specs.declared.known_reads.KnownRead.{KnownRead}
+use Rattle.order_memory.specs.Memory.{MemoryHistory, Writes}
+use Rattle.order_causal.specs.Orders.{op}
+use Rattle.order_memory.specs.SourceOrder.{SourceOrder}
+use Rattle.order_causal.specs.Vectors.{Counts, IsCounted}
 
 -- f is the first operation of the session of o whose vector counts a
 pub record IsFirstCounting (v : Counts) (a o f : OpId) : Type 0 where

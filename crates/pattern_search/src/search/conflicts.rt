@@ -1,19 +1,19 @@
 //! Cycles that the causal order and conflicts of writes make together.
 
 ghost use Rattle.std.specs.Prelude.{◌≡◌, ◌↔◌, IfOk, IsTrue, MatchOption};
-ghost use Rattle.bad_patterns.specs.Kinds.{Shows};
-ghost use Rattle.bad_patterns.specs.Paths.{IsCycle};
+ghost use Rattle.pattern_check.specs.Kinds.{Shows};
+ghost use Rattle.pattern_check.specs.Paths.{IsCycle};
 ghost use Rattle.pattern_search.specs.Steps.Conflicts.{IsConflictBy, IsConflictCycle, IsConflictStep, IsLastConflict, LinksTo};
-ghost use Rattle.bad_patterns.specs.declared.kind.Kind.TheVariants.{CyclicCF};
-ghost use Rattle.memory_order.specs.Memory.{IsDifferentiated};
-ghost use Rattle.memory_order.specs.Steps.Indexed.{IsKnownRead};
-ghost use Rattle.memory_order.specs.declared.known_reads.KnownRead.{KnownRead as Read};
+ghost use Rattle.pattern_check.specs.declared.kind.Kind.TheVariants.{CyclicCF};
+ghost use Rattle.order_memory.specs.Memory.{IsDifferentiated};
+ghost use Rattle.order_memory.specs.Steps.Indexed.{IsKnownRead};
+ghost use Rattle.order_memory.specs.declared.known_reads.KnownRead.{KnownRead as Read};
 
 use crate::search::routes_back::path_between;
-use bad_patterns::{Link, Links};
-use causal_order::{OrderOrCycle, topological_sort};
-use history::OpId;
-use memory_order::{CausalOrder, KnownRead, waits_with_conflicts};
+use model_history::OpId;
+use order_causal::{OrderOrCycle, topological_sort};
+use order_memory::{CausalOrder, KnownRead, waits_with_conflicts};
+use pattern_check::{Link, Links};
 use std::alloc::{AllocError, Global};
 
 /// A cycle of the causal order and of conflicts: a write that is in the past of a read of another write of its variable

@@ -1,16 +1,16 @@
 //! Cycles of the causal order, which are found by a topological sort.
 
 ghost use Rattle.std.specs.Prelude.{IfOk, MatchOption};
-ghost use Rattle.bad_patterns.specs.Patterns.{IsCyclicPath};
-ghost use Rattle.memory_order.specs.Memory.{IsDifferentiated};
-ghost use Rattle.memory_order.specs.SourceOrder.{IsCyclic};
-ghost use Rattle.memory_order.specs.Steps.Indexed.{ListsSourcesIfAny};
+ghost use Rattle.pattern_check.specs.Patterns.{IsCyclicPath};
+ghost use Rattle.order_memory.specs.Memory.{IsDifferentiated};
+ghost use Rattle.order_memory.specs.SourceOrder.{IsCyclic};
+ghost use Rattle.order_memory.specs.Steps.Indexed.{ListsSourcesIfAny};
 
-use bad_patterns::Path;
-use causal_order::{OrderOrCycle, topological_sort};
-use history::History;
-use memory_order::{Sources, waits_for_sources};
-use objects::Memory;
+use model_history::History;
+use model_objects::Memory;
+use order_causal::{OrderOrCycle, topological_sort};
+use order_memory::{Sources, waits_for_sources};
+use pattern_check::Path;
 use std::alloc::{AllocError, Global};
 
 /// A path of the causal order from an operation to itself, where there is one.

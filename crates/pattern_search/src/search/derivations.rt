@@ -1,10 +1,10 @@
 //! Derivations of pairs of a happened-before relation, without lines that are not needed.
 
 ghost use Rattle.std.specs.Prelude.{◌≡◌, ◌-◌, ◌+◌, ◌<◌, [], ◌∷◌, ◌++◌, length, slice_get, IfOk, MatchOption, Some};
-ghost use Rattle.memory_order.specs.declared.growing_order.Raise.{Raise as CountRaise};
-ghost use Rattle.memory_order.specs.Memory.{IsDifferentiated};
-ghost use Rattle.memory_order.specs.Relations.{HB};
-ghost use Rattle.bad_patterns.specs.Derivations.{IsDerivation};
+ghost use Rattle.order_memory.specs.declared.growing_order.Raise.{Raise as CountRaise};
+ghost use Rattle.order_memory.specs.Memory.{IsDifferentiated};
+ghost use Rattle.order_memory.specs.Relations.{HB};
+ghost use Rattle.pattern_check.specs.Derivations.{IsDerivation};
 ghost use Rattle.pattern_search.specs.Steps.Drafts.{AreWritten, EndsIn, IsDraft};
 ghost use Rattle.pattern_search.specs.Steps.Reasons.{AreClosedFrom, AreGrounded, IsPremise, last_of};
 ghost use Rattle.pattern_search.specs.Steps.Relations.{IsRelation};
@@ -13,9 +13,9 @@ use crate::search::drafts::Draft;
 use crate::search::needed::needed_raises;
 use crate::search::reasons::{Reasons, last_counted, raise_of};
 use crate::search::relations::Relation;
-use bad_patterns::{Derivation, MAX_LINES, Pair};
-use history::OpId;
-use memory_order::CausalOrder;
+use model_history::OpId;
+use order_memory::CausalOrder;
+use pattern_check::{Derivation, MAX_LINES, Pair};
 use std::alloc::{AllocError, Global};
 
 /// The most raises that a relation may have so that each of its pairs is sure to have a derivation within [`MAX_LINES`]: five lines

@@ -1,20 +1,20 @@
 //! Drafts of derivations, which grow line by line.
 
 ghost use Rattle.std.specs.Prelude.{◌≡◌, ◌≢◌, ◌↔◌, ℕ, ◌+◌, ◌<◌, ◌≤◌, length, slice_get, IfOk, IsTrue, Some};
-ghost use Rattle.history.specs.declared.op_id.OpId.{OpId as Operation};
-ghost use Rattle.history.specs.History.{IsOp};
-ghost use Rattle.memory_order.specs.Memory.{MemoryHistory};
-ghost use Rattle.memory_order.specs.SourceOrder.{SourceOrder};
-ghost use Rattle.memory_order.specs.Steps.Indexed.{IsSourcePast};
-ghost use Rattle.bad_patterns.specs.Derivations.{Gives};
+ghost use Rattle.model_history.specs.declared.op_id.OpId.{OpId as Operation};
+ghost use Rattle.model_history.specs.History.{IsOp};
+ghost use Rattle.order_memory.specs.Memory.{MemoryHistory};
+ghost use Rattle.order_memory.specs.SourceOrder.{SourceOrder};
+ghost use Rattle.order_memory.specs.Steps.Indexed.{IsSourcePast};
+ghost use Rattle.pattern_check.specs.Derivations.{Gives};
 ghost use Rattle.pattern_search.specs.Steps.Drafts.{EndsWithin, GivesWithin, IsDraft, IsWritten};
 ghost use Rattle.pattern_search.specs.Steps.Reasons.{AreGrounded, ArePremises, IsPremise, last_of};
 
 use crate::search::reasons::{Reasons, last_counted, raise_of};
 use crate::search::routes_back::path_between;
-use bad_patterns::{Derivation, Line, MAX_LINES, Pair};
-use history::OpId;
-use memory_order::{CausalOrder, Cause, Raise};
+use model_history::OpId;
+use order_memory::{CausalOrder, Cause, Raise};
+use pattern_check::{Derivation, Line, MAX_LINES, Pair};
 use std::alloc::{AllocError, Global};
 use std::marker::Model;
 
@@ -29,8 +29,8 @@ pub struct Draft {
 
 impl Model for Draft {
     ghost use Rattle.std.specs.Prelude.{List};
-    ghost use Rattle.bad_patterns.specs.declared.derivation.Line.{Line as DerivationLine};
-    ghost use Rattle.bad_patterns.specs.Derivations.{Pair as Given};
+    ghost use Rattle.pattern_check.specs.declared.derivation.Line.{Line as DerivationLine};
+    ghost use Rattle.pattern_check.specs.Derivations.{Pair as Given};
 
     ghost Value = { List DerivationLine × List Given };
 

@@ -1,17 +1,17 @@
 //! Pairs of a happened-before relation that show a pattern.
 
 ghost use Rattle.std.specs.Prelude.{◌≡◌, ◌<◌, ◌↔◌, ℕ, length, IfSome, IsTrue, MatchOption};
-ghost use Rattle.history.specs.declared.op_id.OpId.{OpId as Operation};
+ghost use Rattle.model_history.specs.declared.op_id.OpId.{OpId as Operation};
 ghost use Rattle.pattern_search.specs.Steps.Relations.{IsRelation, IsStartOverwritten, IsWriteHappened};
-ghost use Rattle.memory_order.specs.Memory.{IsDifferentiated};
-ghost use Rattle.causal_order.specs.Orders.{op as operation};
-ghost use Rattle.memory_order.specs.Relations.{HB};
-ghost use Rattle.memory_order.specs.Steps.Indexed.{IsKnownRead};
+ghost use Rattle.order_memory.specs.Memory.{IsDifferentiated};
+ghost use Rattle.order_causal.specs.Orders.{op as operation};
+ghost use Rattle.order_memory.specs.Relations.{HB};
+ghost use Rattle.order_memory.specs.Steps.Indexed.{IsKnownRead};
 
 use crate::search::relations::Relation;
-use bad_patterns::Pair;
-use history::OpId;
-use memory_order::{CausalOrder, KnownRead};
+use model_history::OpId;
+use order_memory::{CausalOrder, KnownRead};
+use pattern_check::Pair;
 
 /// A write, and a read of the initial value of its variable that the relation puts after it: the first such read of the
 /// session up to the operation of the relation. There is none exactly where there is no such read.

@@ -1,14 +1,14 @@
 //! The raises that a raise rests on, directly or through others.
 
 ghost use Rattle.std.specs.Prelude.{◌≡◌, ℕ, ◌+◌, ◌<◌, true, length, slice_get, IfOk, Some};
-ghost use Rattle.history.specs.declared.op_id.OpId.{OpId as Operation};
-ghost use Rattle.memory_order.specs.declared.growing_order.Raise.{Raise as CountRaise};
+ghost use Rattle.model_history.specs.declared.op_id.OpId.{OpId as Operation};
+ghost use Rattle.order_memory.specs.declared.growing_order.Raise.{Raise as CountRaise};
 ghost use Rattle.pattern_search.specs.Steps.Reasons.{AreClosedFrom, AreGrounded, ArePremises, IsBefore};
 ghost use Rattle.pattern_search.specs.Steps.Reasons.{IsGrounded, IsMarked, IsPremise, MarksBelow};
 
 use crate::search::reasons::{Reasons, last_counted, raise_of};
-use bad_patterns::Pair;
-use memory_order::{CausalOrder, Cause, Raise};
+use order_memory::{CausalOrder, Cause, Raise};
+use pattern_check::Pair;
 use std::alloc::{AllocError, Global};
 
 /// For each raise, whether it is the raise with a number or that raise rests on it.

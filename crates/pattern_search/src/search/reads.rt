@@ -1,18 +1,18 @@
 //! Reads from writes that were overwritten in their causal past, and reads of initial values after a write.
 
 ghost use Rattle.std.specs.Prelude.{◌↔◌, IfNone, IfOk, IfSome, IsTrue, MatchOption};
-ghost use Rattle.bad_patterns.specs.Patterns.{ArePathsToOverwrittenRead, IsPathToInitialRead};
+ghost use Rattle.pattern_check.specs.Patterns.{ArePathsToOverwrittenRead, IsPathToInitialRead};
 ghost use Rattle.pattern_search.specs.Steps.Routes.{AreWritesBefore, IsCountedBefore, IsWriteBefore};
-ghost use Rattle.memory_order.specs.Memory.{IsDifferentiated};
-ghost use Rattle.memory_order.specs.OverwrittenReads.{HasOverwrittenRead, HasOverwrittenStart};
-ghost use Rattle.memory_order.specs.Steps.Indexed.{IsKnownRead};
-ghost use Rattle.history.specs.declared.op_id.OpId.{OpId as Operation};
+ghost use Rattle.order_memory.specs.Memory.{IsDifferentiated};
+ghost use Rattle.order_memory.specs.OverwrittenReads.{HasOverwrittenRead, HasOverwrittenStart};
+ghost use Rattle.order_memory.specs.Steps.Indexed.{IsKnownRead};
+ghost use Rattle.model_history.specs.declared.op_id.OpId.{OpId as Operation};
 
 use crate::search::routes_back::path_between;
-use bad_patterns::Path;
-use causal_order::{Vectors, has_counted};
-use history::OpId;
-use memory_order::{CausalOrder, KnownRead};
+use model_history::OpId;
+use order_causal::{Vectors, has_counted};
+use order_memory::{CausalOrder, KnownRead};
+use pattern_check::Path;
 use std::alloc::{AllocError, Global};
 
 /// A path from a write to a read of the initial value of its variable: there is none exactly where values are distinct and

@@ -1,13 +1,13 @@
 //! The raises that made a relation, as an index from pairs to reasons.
 
 ghost use Rattle.std.specs.Prelude.{◌≡◌, ◌≢◌, ◌⊎◌, ◌↔◌, ℕ, ◌<◌, length, slice_get, IfOk, IsTrue, MatchOption, Some};
-ghost use Rattle.memory_order.specs.declared.growing_order.Raise.{Raise as CountRaise};
-ghost use Rattle.memory_order.specs.SourceOrder.{SourceOrder};
+ghost use Rattle.order_memory.specs.declared.growing_order.Raise.{Raise as CountRaise};
+ghost use Rattle.order_memory.specs.SourceOrder.{SourceOrder};
 ghost use Rattle.pattern_search.specs.Steps.Reasons.{IsBefore, IsFirstRaise, IsRaisedBy, Raises, last_of};
 
-use bad_patterns::Pair;
-use history::OpId;
-use memory_order::{CausalOrder, Raise};
+use model_history::OpId;
+use order_memory::{CausalOrder, Raise};
+use pattern_check::Pair;
 use std::alloc::{AllocError, Global};
 use std::collections::BTreeMap;
 use std::marker::Model;
@@ -31,7 +31,7 @@ pub struct Reasons<'a> {
 
 impl<'a> Model for Reasons<'a> {
     ghost use Rattle.std.specs.Prelude.{List, length};
-    ghost use Rattle.memory_order.specs.declared.growing_order.Raise.{Raise as CountRaise};
+    ghost use Rattle.order_memory.specs.declared.growing_order.Raise.{Raise as CountRaise};
     ghost use Rattle.pattern_search.specs.Steps.Reasons.{AreLinked};
 
     ghost Value = { List CountRaise };

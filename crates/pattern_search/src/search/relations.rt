@@ -2,12 +2,12 @@
 
 ghost use Rattle.std.specs.Prelude.{◌≡◌, ◌<◌, length, IfOk, MatchOption};
 ghost use Rattle.pattern_search.specs.Steps.Relations.{HasNoRelation, IsMadeForLast};
-ghost use Rattle.memory_order.specs.Memory.{IsDifferentiated};
-ghost use Rattle.causal_order.specs.Vectors.{count as counted};
+ghost use Rattle.order_memory.specs.Memory.{IsDifferentiated};
+ghost use Rattle.order_causal.specs.Vectors.{count as counted};
 
-use causal_order::count_at;
-use history::OpId;
-use memory_order::{CausalOrder, HappenedBefore, Raise, Saturation};
+use model_history::OpId;
+use order_causal::count_at;
+use order_memory::{CausalOrder, HappenedBefore, Raise, Saturation};
 use std::alloc::{AllocError, Global};
 use std::marker::Model;
 
@@ -22,10 +22,10 @@ pub struct Relation {
 }
 
 impl Model for Relation {
-    ghost use Rattle.history.specs.declared.op_id.OpId.{OpId as Operation};
-    ghost use Rattle.causal_order.specs.Vectors.{Counts};
-    ghost use Rattle.memory_order.specs.declared.growing_order.Raise.{Raise as RaisedCount};
-    ghost use Rattle.memory_order.specs.Steps.HappenedBefores.{raises_of, vectors_of};
+    ghost use Rattle.model_history.specs.declared.op_id.OpId.{OpId as Operation};
+    ghost use Rattle.order_causal.specs.Vectors.{Counts};
+    ghost use Rattle.order_memory.specs.declared.growing_order.Raise.{Raise as RaisedCount};
+    ghost use Rattle.order_memory.specs.Steps.HappenedBefores.{raises_of, vectors_of};
     ghost use Rattle.std.specs.Prelude.{List};
 
     ghost Value = { Operation × Counts × List RaisedCount };

@@ -1,17 +1,17 @@
 //! Paths of the causal order, from one operation to another.
 
 ghost use Rattle.std.specs.Prelude.{◌≢◌, IfOk, OnOk, reverse};
-ghost use Rattle.bad_patterns.specs.Paths.{GoesFrom};
+ghost use Rattle.pattern_check.specs.Paths.{GoesFrom};
 ghost use Rattle.pattern_search.specs.Steps.Routes.{IsFirstCounting, IsPushedApart};
-ghost use Rattle.memory_order.specs.SourceOrder.{CountsSourceOrder, SourceOrder};
-ghost use Rattle.memory_order.specs.Steps.Indexed.{IsSourcePast};
-ghost use Rattle.causal_order.specs.Vectors.{IsCounted};
-ghost use Rattle.history.specs.declared.op_id.OpId.{OpId as Operation};
+ghost use Rattle.order_memory.specs.SourceOrder.{CountsSourceOrder, SourceOrder};
+ghost use Rattle.order_memory.specs.Steps.Indexed.{IsSourcePast};
+ghost use Rattle.order_causal.specs.Vectors.{IsCounted};
+ghost use Rattle.model_history.specs.declared.op_id.OpId.{OpId as Operation};
 
-use bad_patterns::Path;
-use causal_order::{Vectors, has_counted};
-use history::OpId;
-use memory_order::CausalOrder;
+use model_history::OpId;
+use order_causal::{Vectors, has_counted};
+use order_memory::CausalOrder;
+use pattern_check::Path;
 use std::alloc::{AllocError, Global};
 
 /// A path from an operation to another that has it in its past. If the other does not have it in its past, the path has the

@@ -2,7 +2,7 @@ use Rattle.std.proofs.Common.{Bool, ℕ, length, take, sym, subst, arith}
 use Rattle.std.specs.Prelude.{IsTrue, ◌↔◌, filter}
 use Rattle.std.proofs.lemmas.Bool.{both_ways}
 use Rattle.std.proofs.lemmas.Result.{IfOk-weaker}
-use Rattle.causal_order.proofs.VectorsLaws.{HasListOf-of_history}
+use Rattle.order_causal.proofs.VectorsLaws.{HasListOf-of_history}
 use Rattle.cert_check.specs.Certificates.{counted, IsArbitratedPiece}
 use Rattle.cert_check.specs.Schedules.{named}
 use Rattle.cert_check.specs.Steps.Namings.{AreCountsAt}

@@ -1,10 +1,10 @@
 use Rattle.cert_check.proofs.SchedulePieces.{schedule-counts}
-use Rattle.causal_order.proofs.VectorsLaws.{HasListOf-of_history}
+use Rattle.order_causal.proofs.VectorsLaws.{HasListOf-of_history}
 use Rattle.std.proofs.Common.{Bool, take, ◌≡◌, ◌+◌, ◌-◌, ◌<◌, ℕ, length, subst, arith, ◌==◌, refl, sym, eqb-true, ◌∙◌}
 use Rattle.std.specs.Prelude.{◌↔◌, IsTrue, nat_le}
 use Rattle.std.proofs.lemmas.Bool.{both_ways, and_parts}
 use Rattle.std.proofs.lemmas.Option.{MatchOption-at_some}
-use Rattle.causal_order.specs.Orders.{program_past}
+use Rattle.order_causal.specs.Orders.{program_past}
 use Rattle.cert_check.specs.Schedules.{named}
 use Rattle.cert_check.specs.Steps.Namings.{AreCountsAt}
 use Rattle.cert_check.specs.Steps.Replays.{IsAnsweredAfter}

@@ -1,5 +1,5 @@
 use Rattle.std.proofs.Common.{◌≤◌, length}
-use Rattle.causal_order.specs.Orders.{program_past}
+use Rattle.order_causal.specs.Orders.{program_past}
 use Rattle.cert_check.specs.Steps.Namings.{AreCountsAt}
 use Rattle.cert_check.proofs.AskedBack.{AreAnsweredFrom}
 use Rattle.cert_check.proofs.asked_back.are_answered_behind.Given as goal

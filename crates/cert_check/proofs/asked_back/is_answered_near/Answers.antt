@@ -1,7 +1,7 @@
-use Rattle.causal_order.proofs.VectorsLaws.{HasListOf-of_history}
+use Rattle.order_causal.proofs.VectorsLaws.{HasListOf-of_history}
 use Rattle.std.proofs.Common.{Bool, not, refl, ap, subst, ◌∙◌}
 use Rattle.std.specs.Prelude.{◌↔◌, IfOk, IfSome, IsTrue, List}
-use Rattle.history.specs.declared.op_id.OpId.{OpId}
+use Rattle.model_history.specs.declared.op_id.OpId.{OpId}
 use Rattle.cert_check.specs.Steps.Replays.{IsAnsweredAfter}
 use Rattle.cert_check.proofs.ReplaySteps.{unknown_return}
 use Rattle.cert_check.proofs.SchedulePieces.{counted_front, schedule-names}

@@ -1,6 +1,6 @@
 use Rattle.std.proofs.Common.{◌≡◌, length, ap, arith, refl, subst, sym, ◌∙◌}
 use Rattle.std.specs.Prelude.{Some}
-use Rattle.causal_order.proofs.OrdersLaws.{session-of_history}
+use Rattle.order_causal.proofs.OrdersLaws.{session-of_history}
 use Rattle.cert_check.specs.Certificates.{CaseRecord, IsExplainedPiece}
 use Rattle.cert_check.specs.Steps.Firsts.{IsFirstOfSession}
 use Rattle.cert_check.proofs.Firsts.{explained_more}

@@ -1,7 +1,7 @@
 use Rattle.std.proofs.Common.{◌≡◌, ℕ, ◌<◌}
 use Rattle.std.specs.Prelude.{Some}
-use Rattle.history.specs.History.{IsOp}
-use Rattle.causal_order.specs.Orders.{op}
+use Rattle.model_history.specs.History.{IsOp}
+use Rattle.order_causal.specs.Orders.{op}
 use Rattle.cert_check.specs.declared.certificate.Certificate.{Certificate}
 use Rattle.cert_check.specs.Certificates.{IsExplainedPiece}
 use Rattle.cert_check.proofs.checking.first_of_history.Given as goal

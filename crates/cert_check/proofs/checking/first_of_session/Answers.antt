@@ -1,5 +1,5 @@
 use Rattle.cert_check.specs.Certificates.{IsExplainedPiece}
-use Rattle.causal_order.specs.Orders.{op}
+use Rattle.order_causal.specs.Orders.{op}
 use Rattle.std.proofs.lemmas.Bool.{cases_lt}
 use Rattle.std.specs.Prelude.{Some}
 use Rattle.std.proofs.Common.{arith, ◌≡◌, ◌<◌, ◌≤◌, ℕ, refl, sym, subst, ⊎_elim, ◌∙◌}

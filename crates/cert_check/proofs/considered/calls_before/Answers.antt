@@ -1,8 +1,8 @@
 use Rattle.std.proofs.Common.{◌≡◌, ◌+◌, ◌-◌, ℕ, List, take, drop, reverse, ap, sym, subst, arith, ◌∙◌, length}
 use Rattle.std.specs.Prelude.{filter}
 use Rattle.std.proofs.lemmas.List.{drop_all, length-take}
-use Rattle.causal_order.proofs.Fronts.{take-stands}
-use Rattle.history.specs.History.{calls}
+use Rattle.order_causal.proofs.Fronts.{take-stands}
+use Rattle.model_history.specs.History.{calls}
 use Rattle.cert_check.specs.Certificates.{counted}
 use Rattle.cert_check.specs.Schedules.{named}
 use Rattle.cert_check.specs.Steps.Namings.{AreCountsAt}

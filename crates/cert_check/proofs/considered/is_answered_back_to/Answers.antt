@@ -1,7 +1,7 @@
 use Rattle.std.proofs.Common.{◌≡◌, take, ◌∙◌, sym}
 use Rattle.std.specs.Prelude.{filter}
 use Rattle.std.proofs.lemmas.Option.{MatchOption-at_some}
-use Rattle.history.specs.History.{calls}
+use Rattle.model_history.specs.History.{calls}
 use Rattle.cert_check.specs.Certificates.{counted}
 use Rattle.cert_check.specs.Schedules.{named}
 use Rattle.cert_check.specs.Steps.Replays.{considered}

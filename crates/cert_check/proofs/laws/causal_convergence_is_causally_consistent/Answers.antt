@@ -1,5 +1,5 @@
 use Rattle.std.specs.Prelude.{filter}
-use Rattle.causal_order.specs.Orders.{past}
+use Rattle.order_causal.specs.Orders.{past}
 use Rattle.cert_check.proofs.ConvergentLaws.{cut_is_linearization}
 use Rattle.cert_check.proofs.laws.causal_convergence_is_causally_consistent.Goals as goal
 

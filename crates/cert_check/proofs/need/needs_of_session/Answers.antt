@@ -1,6 +1,6 @@
 use Rattle.cert_check.specs.declared.need.Need.{Need}
-use Rattle.causal_order.specs.Orders.{op}
-use Rattle.causal_order.proofs.VectorsLaws.{HasListOf-of_history}
+use Rattle.order_causal.specs.Orders.{op}
+use Rattle.order_causal.proofs.VectorsLaws.{HasListOf-of_history}
 use Rattle.std.proofs.Common.{List, length, ap, arith}
 use Rattle.cert_check.proofs.NeedSteps.{needs-push}
 use Rattle.cert_check.proofs.need.needs_of_session.Goals as goal

@@ -1,5 +1,5 @@
 use Rattle.std.proofs.Common.{◌≡◌, ℕ, ◌<◌, get_or, length}
-use Rattle.causal_order.specs.Orders.{op}
+use Rattle.order_causal.specs.Orders.{op}
 use Rattle.cert_check.specs.declared.need.Need.TheVariants.{Everything}
 use Rattle.cert_check.specs.Steps.Needs.{IsNeedOf}
 use Rattle.cert_check.proofs.need.needs_of_session.Given as goal

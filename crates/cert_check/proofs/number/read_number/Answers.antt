@@ -1,7 +1,7 @@
 use Rattle.std.proofs.Common.{◌≡◌, Some, None, ap, ◌∙◌, sym}
 use Rattle.serde_json.specs.View.{view}
-use Rattle.operations.specs.Json.{whole_number}
-use Rattle.operations.specs.Laws.Json.{whole_number-read}
+use Rattle.json_histories.specs.Json.{whole_number}
+use Rattle.json_histories.specs.Laws.Json.{whole_number-read}
 use Rattle.cert_check.proofs.number.read_number.Goals as goal
 
 pub returns-in-Some : goal.returns-in-Some

@@ -1,9 +1,9 @@
 use Rattle.cert_check.specs.Steps.Namings.{AreCountsAt}
-use Rattle.causal_order.proofs.VectorsLaws.{HasListOf-of_history}
+use Rattle.order_causal.proofs.VectorsLaws.{HasListOf-of_history}
 use Rattle.std.proofs.Common.{Bool, not, refl, ap, ◌∙◌, ℕ, List, length, sym, subst, arith}
 use Rattle.std.specs.Prelude.{IsTrue, ◌↔◌, filter, take}
 use Rattle.std.proofs.lemmas.Result.{IfOk-weaker}
-use Rattle.causal_order.specs.Orders.{only}
+use Rattle.order_causal.specs.Orders.{only}
 use Rattle.cert_check.specs.Certificates.{counted}
 use Rattle.cert_check.specs.Criteria.{Explains}
 use Rattle.cert_check.specs.Schedules.{named}

@@ -2,9 +2,9 @@ use Rattle.std.proofs.Common.{Bool, subst, sym}
 use Rattle.std.specs.Prelude.{IsTrue, ◌↔◌}
 use Rattle.std.proofs.lemmas.Bool.{both_ways}
 use Rattle.std.proofs.lemmas.Result.{IfOk-weaker}
-use Rattle.history.specs.History.{HistoryValue}
-use Rattle.causal_order.specs.Orders.{only}
-use Rattle.causal_order.specs.Vectors.{Counts, IsVectorOk}
+use Rattle.model_history.specs.History.{HistoryValue}
+use Rattle.order_causal.specs.Orders.{only}
+use Rattle.order_causal.specs.Vectors.{Counts, IsVectorOk}
 use Rattle.cert_check.specs.Certificates.{IsScheduledPiece}
 use Rattle.cert_check.specs.Criteria.{Explains}
 use Rattle.cert_check.specs.Schedules.{named, IsSchedule}

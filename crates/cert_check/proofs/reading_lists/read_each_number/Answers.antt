@@ -1,8 +1,8 @@
 use Rattle.std.proofs.Common.{arith, ◌≤◌, length, map, sym}
 use Rattle.serde_json.specs.View.{view}
-use Rattle.operations.specs.Reads.{number_form}
-use Rattle.operations.specs.Json.{list}
-use Rattle.operations.specs.Laws.Json.{elements-list}
+use Rattle.json_histories.specs.Reads.{number_form}
+use Rattle.json_histories.specs.Json.{list}
+use Rattle.json_histories.specs.Laws.Json.{elements-list}
 use Rattle.cert_check.proofs.ListReading.{all_read, none_fits, one_more_read}
 use Rattle.cert_check.proofs.reading_lists.read_each_number.Goals as goal
 

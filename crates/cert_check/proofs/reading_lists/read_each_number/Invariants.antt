@@ -1,4 +1,4 @@
-use Rattle.operations.specs.Reads.{number_form}
+use Rattle.json_histories.specs.Reads.{number_form}
 use Rattle.serde_json.specs.View.{view}
 use Rattle.cert_check.proofs.ListReading.{AreReadUpTo}
 use Rattle.cert_check.proofs.reading_lists.read_each_number.Given as goal

@@ -1,6 +1,6 @@
 use Rattle.std.proofs.Common.{arith, ◌≤◌, length, All}
 use Rattle.serde_json.specs.View.{view}
-use Rattle.operations.specs.Reads.{list_form, number_form}
+use Rattle.json_histories.specs.Reads.{list_form, number_form}
 use Rattle.cert_check.proofs.ListReading.{all_read, no_list, none_fits, one_more_read}
 use Rattle.cert_check.proofs.reading_lists.read_lists.Goals as goal
 

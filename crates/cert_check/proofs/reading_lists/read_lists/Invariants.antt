@@ -1,6 +1,6 @@
 use Rattle.std.proofs.Common.{All}
 use Rattle.serde_json.specs.View.{view}
-use Rattle.operations.specs.Reads.{list_form, number_form}
+use Rattle.json_histories.specs.Reads.{list_form, number_form}
 use Rattle.cert_check.proofs.ListReading.{AreReadUpTo}
 use Rattle.cert_check.proofs.reading_lists.read_lists.Given as goal
 

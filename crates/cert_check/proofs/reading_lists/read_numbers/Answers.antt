@@ -1,7 +1,7 @@
 use Rattle.std.proofs.Common.{map, sym}
 use Rattle.serde_json.specs.View.{view}
-use Rattle.operations.specs.Laws.Json.{list_from_elements}
-use Rattle.operations.specs.Reads.{number_form}
+use Rattle.json_histories.specs.Laws.Json.{list_from_elements}
+use Rattle.json_histories.specs.Reads.{number_form}
 use Rattle.cert_check.proofs.ListReading.{no_list}
 use Rattle.cert_check.proofs.reading_lists.read_numbers.Goals as goal
 

@@ -1,7 +1,7 @@
 use Rattle.cert_check.proofs.ConsideredCalls.{known_answered}
 use Rattle.std.proofs.Common.{ap, refl, sym, subst, ◌∙◌}
 use Rattle.std.specs.Prelude.{is_some}
-use Rattle.history.specs.History.{calls}
+use Rattle.model_history.specs.History.{calls}
 use Rattle.cert_check.proofs.ReplaySteps.{calls_push, unknown_return}
 use Rattle.cert_check.proofs.replay.take_in_call.Goals as goal
 

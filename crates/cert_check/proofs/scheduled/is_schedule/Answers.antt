@@ -1,7 +1,7 @@
-use Rattle.causal_order.proofs.VectorsLaws.{HasListOf-of_history}
+use Rattle.order_causal.proofs.VectorsLaws.{HasListOf-of_history}
 use Rattle.std.proofs.Common.{◌≡◌, List, ℕ, get_or, length, ap, ◌∙◌, sym}
 use Rattle.std.proofs.lemmas.Bool.{both_ways}
-use Rattle.causal_order.specs.Vectors.{count}
+use Rattle.order_causal.specs.Vectors.{count}
 use Rattle.cert_check.proofs.SchedulePieces.{schedule-ends, schedule-from, schedule-named}
 use Rattle.cert_check.proofs.scheduled.is_schedule.Goals as goal
 

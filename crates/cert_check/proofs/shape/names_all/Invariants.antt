@@ -1,6 +1,6 @@
 use Rattle.std.proofs.Common.{◌≡◌, ℕ, ◌<◌, length}
-use Rattle.history.specs.History.{session}
-use Rattle.causal_order.specs.Schedules.{placed}
+use Rattle.model_history.specs.History.{session}
+use Rattle.order_causal.specs.Schedules.{placed}
 use Rattle.cert_check.proofs.shape.names_all.Given as goal
 
 -- the sessions so far occur as often as they have operations

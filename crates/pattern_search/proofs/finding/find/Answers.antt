@@ -1,9 +1,9 @@
 use Rattle.std.specs.Prelude.{IfNone, IfOk, IfSome}
 use Rattle.std.proofs.Common.{subst}
-use Rattle.memory_order.specs.Memory.{MemoryHistory}
+use Rattle.order_memory.specs.Memory.{MemoryHistory}
 use Rattle.cert_check.specs.declared.criterion.Criterion.TheVariants.{Cc}
-use Rattle.bad_patterns.specs.Kinds.{IsFreeOf}
-use Rattle.bad_patterns.specs.Patterns.{IsBadPattern, kind_of}
+use Rattle.pattern_check.specs.Kinds.{IsFreeOf}
+use Rattle.pattern_check.specs.Patterns.{IsBadPattern, kind_of}
 use Rattle.pattern_search.specs.FirstKinds.{ComesFirstOrLarge}
 use Rattle.pattern_search.specs.Searches.{IsFreeOrLarge}
 use Rattle.pattern_search.specs.Steps.Found.{IsFirstFound}

@@ -1,8 +1,8 @@
 use Rattle.std.proofs.Common.{◌≡◌, inl}
-use Rattle.memory_order.proofs.Outcomes.{none-weaker, some-weaker}
-use Rattle.bad_patterns.specs.declared.kind.Kind.TheVariants.{CyclicCF}
-use Rattle.bad_patterns.specs.declared.pattern.Pattern.{Pattern}
-use Rattle.bad_patterns.specs.Patterns.{IsBadPattern, kind_of}
+use Rattle.order_memory.proofs.Outcomes.{none-weaker, some-weaker}
+use Rattle.pattern_check.specs.declared.kind.Kind.TheVariants.{CyclicCF}
+use Rattle.pattern_check.specs.declared.pattern.Pattern.{Pattern}
+use Rattle.pattern_check.specs.Patterns.{IsBadPattern, kind_of}
 use Rattle.pattern_search.specs.FirstKinds.{ComesFirstOrLarge}
 use Rattle.pattern_search.proofs.FirstKindLaws.{first-conflicts_for, first-happened, happened-found}
 use Rattle.pattern_search.proofs.NothingFound.{free-consistent, free-of, free-or-large}

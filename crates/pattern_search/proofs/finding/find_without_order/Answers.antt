@@ -1,9 +1,9 @@
 use Rattle.std.proofs.Common.{subst, sym}
-use Rattle.history.specs.declared.op_id.OpId.{OpId}
-use Rattle.memory_order.specs.Memory.{MemoryHistory}
-use Rattle.memory_order.specs.SourceOrder.{IsCyclic}
-use Rattle.bad_patterns.specs.Kinds.{IsThinAirRead}
-use Rattle.memory_order.specs.Steps.Indexed.{ListsSourcesIfAny}
+use Rattle.model_history.specs.declared.op_id.OpId.{OpId}
+use Rattle.order_memory.specs.Memory.{MemoryHistory}
+use Rattle.order_memory.specs.SourceOrder.{IsCyclic}
+use Rattle.pattern_check.specs.Kinds.{IsThinAirRead}
+use Rattle.order_memory.specs.Steps.Indexed.{ListsSourcesIfAny}
 use Rattle.pattern_search.proofs.FirstKindLaws.{first-cycle, first-thin_air}
 use Rattle.pattern_search.proofs.NothingFound.{unordered-shown}
 use Rattle.pattern_search.proofs.finding.find_without_order.Goals as goal

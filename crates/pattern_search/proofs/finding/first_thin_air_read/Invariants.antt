@@ -1,6 +1,6 @@
 use Rattle.std.proofs.Common.{ℕ, ◌<◌}
-use Rattle.bad_patterns.specs.Kinds.{IsThinAirRead}
-use Rattle.causal_order.specs.Orders.{op}
+use Rattle.pattern_check.specs.Kinds.{IsThinAirRead}
+use Rattle.order_causal.specs.Orders.{op}
 use Rattle.pattern_search.proofs.finding.first_thin_air_read.Given as goal
 
 -- no operation of a session so far is a thin-air read

@@ -1,5 +1,5 @@
 use Rattle.std.proofs.Common.{arith, below_more, refl, ◌≤◌, length}
-use Rattle.history.specs.History.{session}
+use Rattle.model_history.specs.History.{session}
 use Rattle.pattern_search.proofs.First.{no_thin_air_of}
 use Rattle.pattern_search.proofs.finding.first_thin_air_read_of.Goals as goal
 

@@ -1,6 +1,6 @@
 use Rattle.std.proofs.Common.{subst, sym}
-use Rattle.history.specs.declared.op_id.OpId.{OpId}
-use Rattle.memory_order.specs.Relations.{HB}
+use Rattle.model_history.specs.declared.op_id.OpId.{OpId}
+use Rattle.order_memory.specs.Relations.{HB}
 use Rattle.pattern_search.specs.Steps.Relations.{HasNoCycle}
 use Rattle.pattern_search.proofs.SearchedLaws.{cycle-present}
 use Rattle.pattern_search.proofs.finding_happened_before.find_cycle.Goals as goal

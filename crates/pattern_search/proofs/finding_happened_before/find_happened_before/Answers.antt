@@ -1,6 +1,6 @@
 use Rattle.std.proofs.Common.{◌≡◌, true}
-use Rattle.bad_patterns.specs.declared.kind.Kind.TheVariants.{CyclicHB}
-use Rattle.bad_patterns.specs.Kinds.{is_against}
+use Rattle.pattern_check.specs.declared.kind.Kind.TheVariants.{CyclicHB}
+use Rattle.pattern_check.specs.Kinds.{is_against}
 use Rattle.pattern_search.proofs.SearchedLaws.{cycle-found, not-pattern}
 use Rattle.pattern_search.proofs.finding_happened_before.find_happened_before.Goals as goal
 

@@ -1,6 +1,6 @@
 use Rattle.std.proofs.Common.{◌+◌, ◌≤◌, length, ap, ◌∙◌, arith}
-use Rattle.memory_order.specs.HappenedBeforePatterns.{HasHBCycle, HasStartOverwrittenInHB}
-use Rattle.memory_order.specs.Memory.{MemoryHistory}
+use Rattle.order_memory.specs.HappenedBeforePatterns.{HasHBCycle, HasStartOverwrittenInHB}
+use Rattle.order_memory.specs.Memory.{MemoryHistory}
 use Rattle.pattern_search.specs.Steps.Relations.{HasNoCycleBefore, HasNoStartBefore}
 use Rattle.pattern_search.proofs.SearchedLaws.{searched-all, searched-shown}
 use Rattle.pattern_search.proofs.finding_happened_before.search_happened_before.Goals as goal

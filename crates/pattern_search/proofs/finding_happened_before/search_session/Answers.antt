@@ -1,6 +1,6 @@
 use Rattle.std.proofs.Common.{◌≡◌, ℕ, ◌+◌, length, ap, arith, sym, subst, ◌∙◌, IfOk}
-use Rattle.history.specs.History.{session}
-use Rattle.memory_order.specs.Memory.{MemoryHistory}
+use Rattle.model_history.specs.History.{session}
+use Rattle.order_memory.specs.Memory.{MemoryHistory}
 use Rattle.pattern_search.specs.Searches.{AreSearched}
 use Rattle.pattern_search.specs.Steps.Relations.{HasNoCycleBefore, HasNoStartBefore}
 use Rattle.pattern_search.proofs.SearchedLaws.{no-relation, searched-empty, searched-open}

@@ -1,6 +1,6 @@
 use Rattle.std.proofs.Common.{◌≡◌, ◌<◌, ℕ, List, length, set, ap, sym, subst, arith, ◌∙◌}
 use Rattle.std.proofs.lemmas.List.{get_or_read, length-set}
-use Rattle.causal_order.specs.Orders.{op, StandsAt}
+use Rattle.order_causal.specs.Orders.{op, StandsAt}
 use Rattle.cert_check.specs.Schedules.{named}
 use Rattle.cert_check.proofs.NamingSteps.{counts_here, named_last, session_counted, session_inside}
 use Rattle.cert_check.proofs.naming.Naming.back.Goals as goal

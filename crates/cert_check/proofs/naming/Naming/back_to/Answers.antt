@@ -1,9 +1,9 @@
 use Rattle.std.proofs.Common.{◌≡◌, ◌≢◌, ◌+◌, ◌-◌, ◌<◌, ℕ, take, arith, subst, sym, ◌∙◌}
 use Rattle.std.specs.Prelude.{IsTrue}
 use Rattle.std.proofs.lemmas.Bool.{both_ways}
-use Rattle.causal_order.specs.Orders.{only}
-use Rattle.causal_order.specs.Schedules.{placed}
-use Rattle.history.specs.declared.op_id.OpId.{OpId}
+use Rattle.order_causal.specs.Orders.{only}
+use Rattle.order_causal.specs.Schedules.{placed}
+use Rattle.model_history.specs.declared.op_id.OpId.{OpId}
 use Rattle.cert_check.specs.Steps.Namings.{AreCountsAt}
 use Rattle.cert_check.proofs.NamingSteps.{named_before}
 use Rattle.cert_check.proofs.Pasts.{only-itself}

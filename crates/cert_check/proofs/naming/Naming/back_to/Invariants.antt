@@ -1,5 +1,5 @@
 use Rattle.std.proofs.Common.{◌≤◌, ◌<◌, length, take}
-use Rattle.causal_order.specs.Schedules.{placed}
+use Rattle.order_causal.specs.Schedules.{placed}
 use Rattle.cert_check.specs.Steps.Namings.{AreCountsAt}
 use Rattle.cert_check.proofs.naming.Naming.back_to.Given as goal
 

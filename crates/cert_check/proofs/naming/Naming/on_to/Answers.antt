@@ -2,9 +2,9 @@ use Rattle.std.proofs.Common.{◌≡◌, ℕ, List, [], length, get_or, ap, sym,
 use Rattle.std.specs.Prelude.{IsTrue}
 use Rattle.std.proofs.lemmas.Bool.{some_since, both_ways}
 use Rattle.std.proofs.lemmas.Option.{MatchOption-at_some, slice_get-get_or}
-use Rattle.history.specs.declared.op_id.OpId.{OpId}
-use Rattle.causal_order.specs.Orders.{StandsAt, only}
-use Rattle.causal_order.specs.Schedules.{placed}
+use Rattle.model_history.specs.declared.op_id.OpId.{OpId}
+use Rattle.order_causal.specs.Orders.{StandsAt, only}
+use Rattle.order_causal.specs.Schedules.{placed}
 use Rattle.cert_check.specs.Schedules.{named}
 use Rattle.cert_check.proofs.ConvergentLaws.{only-same}
 use Rattle.cert_check.proofs.CutSteps.{not_named_yet}

@@ -1,5 +1,5 @@
 use Rattle.std.proofs.lemmas.List.{length-set}
-use Rattle.causal_order.proofs.VectorsLaws.{HasListOf-of_history}
+use Rattle.order_causal.proofs.VectorsLaws.{HasListOf-of_history}
 use Rattle.std.proofs.Common.{◌∙◌, ℕ, List, length, ap}
 use Rattle.cert_check.proofs.NamingSteps.{naming-absent, counting}
 use Rattle.cert_check.proofs.NeedSteps.{met-exactly}

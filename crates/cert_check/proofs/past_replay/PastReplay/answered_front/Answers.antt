@@ -1,5 +1,5 @@
 use Rattle.std.proofs.Common.{sym, subst}
-use Rattle.causal_order.specs.Orders.{program_past}
+use Rattle.order_causal.specs.Orders.{program_past}
 use Rattle.cert_check.specs.Steps.Replays.{AreAnswered}
 use Rattle.cert_check.proofs.ReplaySteps.{answered_in_front}
 use Rattle.cert_check.proofs.past_replay.PastReplay.answered_front.Goals as goal

@@ -1,8 +1,8 @@
 use Rattle.cert_check.specs.Steps.Replays.{AreAnswered}
 use Rattle.cert_check.specs.Schedules.{IsSchedule}
-use Rattle.causal_order.specs.Vectors.{AreVectorsOf, IsVectorOk}
-use Rattle.causal_order.specs.Orders.{program_past}
-use Rattle.history.specs.History.{IsOp}
+use Rattle.order_causal.specs.Vectors.{AreVectorsOf, IsVectorOk}
+use Rattle.order_causal.specs.Orders.{program_past}
+use Rattle.model_history.specs.History.{IsOp}
 use Rattle.std.specs.Prelude.{◌↔◌, IfOk, IfSome, IsTrue}
 use Rattle.std.proofs.Common.{Bool, length, subst, sym}
 use Rattle.cert_check.proofs.past_replay.PastReplay.asked_back.Goals as goal

@@ -1,7 +1,7 @@
 use Rattle.std.proofs.Common.{[], sym, subst, ◌∙◌}
 use Rattle.std.specs.Prelude.{take}
 use Rattle.std.proofs.lemmas.Option.{MatchOption-at_some}
-use Rattle.causal_order.specs.Orders.{program_past}
+use Rattle.order_causal.specs.Orders.{program_past}
 use Rattle.cert_check.specs.Schedules.{named}
 use Rattle.cert_check.specs.Steps.Replays.{AreAnswered, IsReplayAt}
 use Rattle.cert_check.proofs.ReplaySteps.{answered_in_front, replayed_front}

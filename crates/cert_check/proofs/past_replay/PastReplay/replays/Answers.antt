@@ -1,7 +1,7 @@
 use Rattle.std.proofs.Common.{length, refl, sym, subst, ◌∙◌}
 use Rattle.std.specs.Prelude.{take}
-use Rattle.causal_order.specs.Orders.{program_past}
-use Rattle.causal_order.specs.Vectors.{IsVectorOk}
+use Rattle.order_causal.specs.Orders.{program_past}
+use Rattle.order_causal.specs.Vectors.{IsVectorOk}
 use Rattle.cert_check.specs.Schedules.{named, IsSchedule}
 use Rattle.cert_check.specs.Steps.Replays.{AreAnswered, IsReplayAt, NamesOperations}
 use Rattle.cert_check.proofs.SchedulePieces.{schedule-names}

@@ -2,8 +2,8 @@ use Rattle.std.proofs.Math.Path.{ap₂}
 use Rattle.std.proofs.Common.{Bool, ◌≡◌, ℕ, List, sym, ap, subst, ◌∙◌, subst₂}
 use Rattle.std.specs.Prelude.{IsTrue, ◌↔◌}
 use Rattle.std.proofs.lemmas.Result.{IfOk-weaker}
-use Rattle.history.specs.History.{HistoryValue, IsOp}
-use Rattle.causal_order.specs.Orders.{only, program_past}
+use Rattle.model_history.specs.History.{HistoryValue, IsOp}
+use Rattle.order_causal.specs.Orders.{only, program_past}
 use Rattle.cert_check.specs.Certificates.{IsArbitratedPiece, IsScheduledPiece, HasShapeOf, vectors_of}
 use Rattle.cert_check.specs.declared.certificate.Certificate.TheVariants.{Cc, Cm, Ccv}
 use Rattle.cert_check.proofs.PieceCheckers.{decided_as, held_is}

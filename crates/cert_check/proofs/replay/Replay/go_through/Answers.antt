@@ -2,7 +2,7 @@ use Rattle.std.proofs.Common.{[], length, get_or, take, sym, subst, arith, â—Œâˆ
 use borrow.Author.Count.{below_more}
 use Rattle.std.proofs.lemmas.Bool.{some_since, both_ways}
 use Rattle.std.proofs.lemmas.Option.{MatchOption-at_some, slice_get-get_or}
-use Rattle.history.specs.History.{calls}
+use Rattle.model_history.specs.History.{calls}
 use Rattle.cert_check.specs.Schedules.{named}
 use Rattle.cert_check.specs.Steps.Replays.{kept_of, IsAnsweredAt, AreAnswered}
 use Rattle.cert_check.proofs.NamingSteps.{named_here}

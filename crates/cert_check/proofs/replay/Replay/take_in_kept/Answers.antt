@@ -1,4 +1,4 @@
-use Rattle.history.specs.History.{calls}
+use Rattle.model_history.specs.History.{calls}
 use Rattle.cert_check.proofs.replay.Replay.take_in_kept.Goals as goal
 
 pub returns-then-answered-clause-answer : goal.returns-then-answered-clause-answer

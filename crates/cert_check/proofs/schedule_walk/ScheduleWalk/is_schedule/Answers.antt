@@ -1,6 +1,6 @@
 use Rattle.cert_check.specs.Schedules.{IsSchedule}
-use Rattle.causal_order.specs.Vectors.{Counts, IsVectorOk}
-use Rattle.history.specs.History.{HistoryValue, IsOp}
+use Rattle.order_causal.specs.Vectors.{Counts, IsVectorOk}
+use Rattle.model_history.specs.History.{HistoryValue, IsOp}
 use Rattle.std.specs.Prelude.{◌↔◌, IsTrue}
 use Rattle.std.proofs.Common.{ℕ, [], subst, arith, true, false, sym}
 use Rattle.cert_check.specs.Steps.Namings.{AreCountsAt}

@@ -1,5 +1,5 @@
 use Rattle.std.proofs.Common.{sym, ◌∙◌, Some}
-use Rattle.objects.specs.Laws.Equal.{same_options}
+use Rattle.model_objects.specs.Laws.Equal.{same_options}
 use Rattle.pattern_search.proofs.ConflictLinks.{apart-tested, last-conflict, same_operations}
 use Rattle.pattern_search.proofs.search.conflicts.are_in_conflict.Goals as goal
 use Rattle.pattern_search.proofs.search.conflicts.are_in_conflict.Goals.{then-ne, else-ne}

@@ -2,7 +2,7 @@ use Rattle.std.proofs.Common.{◌≤◌, length, arith}
 use Rattle.std.proofs.lemmas.Option.{slice_get-get_or}
 use Rattle.pattern_search.specs.Steps.Conflicts.{IsLastConflict}
 use Rattle.pattern_search.proofs.ConflictLinks.{conflict-by, no_conflict}
-use Rattle.memory_order.proofs.Elements.{each-more, listed-at}
+use Rattle.order_memory.proofs.Elements.{each-more, listed-at}
 use Rattle.pattern_search.proofs.search.conflicts.conflicting_read.Goals as goal
 
 pub returns-then-are_in_conflict : goal.returns-then-are_in_conflict

@@ -1,6 +1,6 @@
 use Rattle.std.proofs.Common.{◌≡◌, ℕ, ◌<◌}
 use Rattle.std.specs.Prelude.{Some, slice_get}
-use Rattle.memory_order.specs.declared.known_reads.KnownRead.{KnownRead}
+use Rattle.order_memory.specs.declared.known_reads.KnownRead.{KnownRead}
 use Rattle.pattern_search.specs.Steps.Conflicts.{IsLastConflict}
 use Rattle.pattern_search.proofs.search.conflicts.conflicting_read.Given as goal
 

@@ -1,7 +1,7 @@
 use Rattle.std.proofs.Common.{◌≡◌, ◌+◌, ◌∷◌, List, [], ap, arith, length, length-append}
 use Rattle.std.proofs.lemmas.Option.{slice_get_within}
-use Rattle.bad_patterns.specs.declared.link.Link.{Link}
-use Rattle.bad_patterns.proofs.Neighbours.{related-at}
+use Rattle.pattern_check.specs.declared.link.Link.{Link}
+use Rattle.pattern_check.proofs.Neighbours.{related-at}
 use Rattle.pattern_search.specs.Steps.Conflicts.{IsConflictStep}
 use Rattle.pattern_search.proofs.ConflictLinks.{links-cycle, links-more}
 use Rattle.pattern_search.proofs.search.conflicts.links_of.Goals as goal

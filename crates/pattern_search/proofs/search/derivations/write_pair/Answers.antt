@@ -1,9 +1,9 @@
 use Rattle.std.proofs.Common.{◌≡◌, ◌≤◌, ap, sym, subst, ◌∙◌, arith}
 use Rattle.std.specs.Prelude.{Some, slice_get}
 use Rattle.std.proofs.lemmas.Option.{slice_get_within}
-use Rattle.history.specs.declared.op_id.OpId.{OpId}
-use Rattle.history.specs.History.{IsOp}
-use Rattle.memory_order.specs.Steps.Indexed.{IsSourcePast}
+use Rattle.model_history.specs.declared.op_id.OpId.{OpId}
+use Rattle.model_history.specs.History.{IsOp}
+use Rattle.order_memory.specs.Steps.Indexed.{IsSourcePast}
 use Rattle.pattern_search.specs.Steps.Reasons.{last_of}
 use Rattle.pattern_search.proofs.DraftLines.{ends-in, ends-reached, raised-there}
 use Rattle.pattern_search.proofs.RaisedPairs.{inside-of_history}

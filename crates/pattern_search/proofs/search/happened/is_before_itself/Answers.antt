@@ -1,6 +1,6 @@
 use Rattle.std.proofs.Common.{lt-ltb, ltb-true, subst, sym, arith}
-use Rattle.history.specs.declared.op_id.OpId.{OpId}
-use Rattle.memory_order.specs.Steps.Indexed.{IsSourcePast}
+use Rattle.model_history.specs.declared.op_id.OpId.{OpId}
+use Rattle.order_memory.specs.Steps.Indexed.{IsSourcePast}
 use Rattle.pattern_search.proofs.HappenedReads.{happened-itself, itself-happened}
 use Rattle.pattern_search.proofs.search.happened.is_before_itself.Goals as goal
 

@@ -1,8 +1,8 @@
 use Rattle.std.proofs.Common.{◌≡◌, ◌<◌, ◌≤◌, arith, refl, subst, ⊎_elim, eq-or-lt_of_le}
-use Rattle.history.specs.declared.op_id.OpId.{OpId}
-use Rattle.causal_order.specs.Orders.{op}
-use Rattle.memory_order.specs.Relations.{HB}
-use Rattle.causal_order.proofs.OrdersLaws.{same_op}
+use Rattle.model_history.specs.declared.op_id.OpId.{OpId}
+use Rattle.order_causal.specs.Orders.{op}
+use Rattle.order_memory.specs.Relations.{HB}
+use Rattle.order_causal.proofs.OrdersLaws.{same_op}
 use Rattle.pattern_search.proofs.HappenedReads.{itself-session}
 use Rattle.pattern_search.proofs.search.happened.least_before_itself.Goals as goal
 

@@ -1,6 +1,6 @@
 use Rattle.std.proofs.Common.{◌<◌}
-use Rattle.history.specs.declared.op_id.OpId.{OpId}
-use Rattle.memory_order.specs.Relations.{HB}
+use Rattle.model_history.specs.declared.op_id.OpId.{OpId}
+use Rattle.order_memory.specs.Relations.{HB}
 use Rattle.pattern_search.proofs.search.happened.least_before_itself.Given as goal
 
 -- no operation of the sessions so far is before itself

@@ -1,10 +1,10 @@
 use Rattle.std.proofs.Common.{◌≡◌, ℕ, length, arith, ap, ⊎_elim, subst}
 use Rattle.std.specs.Prelude.{◌≢◌}
 use Rattle.std.proofs.lemmas.Bool.{cases_eq}
-use Rattle.history.specs.History.{session}
-use Rattle.memory_order.specs.Memory.{MemoryHistory}
-use Rattle.memory_order.specs.Relations.{HB}
-use Rattle.causal_order.specs.Orders.{op}
+use Rattle.model_history.specs.History.{session}
+use Rattle.order_memory.specs.Memory.{MemoryHistory}
+use Rattle.order_memory.specs.Relations.{HB}
+use Rattle.order_causal.specs.Orders.{op}
 use Rattle.pattern_search.proofs.HappenedReads.{itself-of_history}
 use Rattle.pattern_search.proofs.search.happened.least_before_itself_of.Goals as goal
 

@@ -1,6 +1,6 @@
 use Rattle.std.proofs.Common.{ℕ, ◌<◌}
-use Rattle.causal_order.specs.Orders.{op}
-use Rattle.memory_order.specs.Relations.{HB}
+use Rattle.order_causal.specs.Orders.{op}
+use Rattle.order_memory.specs.Relations.{HB}
 use Rattle.pattern_search.proofs.search.happened.least_before_itself_of.Given as goal
 
 -- no operation of the session so far is before itself

@@ -1,9 +1,9 @@
 use Rattle.std.proofs.Common.{◌≤◌, length, arith}
 use Rattle.std.proofs.lemmas.Option.{slice_get_within, slice_get-get_or}
-use Rattle.history.specs.declared.op_id.OpId.{OpId}
+use Rattle.model_history.specs.declared.op_id.OpId.{OpId}
 use Rattle.pattern_search.specs.Steps.Relations.{IsWriteHappened}
 use Rattle.pattern_search.proofs.HappenedReads.{happened-start, no-happened}
-use Rattle.memory_order.proofs.Elements.{each-more, listed-at}
+use Rattle.order_memory.proofs.Elements.{each-more, listed-at}
 use Rattle.pattern_search.proofs.search.happened.overwritten_start_in.Goals as goal
 
 pub returns-in-Some : goal.returns-in-Some

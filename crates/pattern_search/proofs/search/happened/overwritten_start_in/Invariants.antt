@@ -1,7 +1,7 @@
 use Rattle.std.proofs.Common.{◌≡◌, ℕ, ◌<◌}
 use Rattle.std.specs.Prelude.{Some, slice_get}
-use Rattle.history.specs.declared.op_id.OpId.{OpId}
-use Rattle.memory_order.specs.declared.known_reads.KnownRead.{KnownRead}
+use Rattle.model_history.specs.declared.op_id.OpId.{OpId}
+use Rattle.order_memory.specs.declared.known_reads.KnownRead.{KnownRead}
 use Rattle.pattern_search.specs.Steps.Relations.{IsWriteHappened}
 use Rattle.pattern_search.proofs.search.happened.overwritten_start_in.Given as goal
 

@@ -1,9 +1,9 @@
 use Rattle.std.proofs.Common.{ℕ, ◌≤◌, length, arith, sym, subst, subst₂, ◌∙◌}
 use Rattle.std.specs.Prelude.{IsTrue}
-use Rattle.history.specs.declared.op_id.OpId.{OpId}
-use Rattle.memory_order.specs.Memory.{MemoryHistory}
-use Rattle.causal_order.specs.Orders.{op, program_past}
-use Rattle.memory_order.specs.Steps.Indexed.{HasNoWriteBefore, IsLastWriteBefore}
+use Rattle.model_history.specs.declared.op_id.OpId.{OpId}
+use Rattle.order_memory.specs.Memory.{MemoryHistory}
+use Rattle.order_causal.specs.Orders.{op, program_past}
+use Rattle.order_memory.specs.Steps.Indexed.{HasNoWriteBefore, IsLastWriteBefore}
 use Rattle.pattern_search.proofs.HappenedReads.{happened-ended, happened-found, happened-more, none-from}
 use Rattle.pattern_search.proofs.search.happened.write_before.Goals as goal
 

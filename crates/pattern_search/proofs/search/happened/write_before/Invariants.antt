@@ -1,5 +1,5 @@
 use Rattle.std.proofs.Common.{◌<◌}
-use Rattle.history.specs.declared.op_id.OpId.{OpId}
+use Rattle.model_history.specs.declared.op_id.OpId.{OpId}
 use Rattle.pattern_search.specs.Steps.Relations.{IsWriteHappened}
 use Rattle.pattern_search.proofs.search.happened.write_before.Given as goal
 

@@ -1,7 +1,7 @@
 use Rattle.std.proofs.Common.{sym, subst, ◌∙◌}
 use Rattle.std.proofs.lemmas.Option.{slice_get_within}
-use Rattle.history.specs.declared.op_id.OpId.{OpId}
-use Rattle.memory_order.specs.declared.growing_order.Cause.{Cause}
+use Rattle.model_history.specs.declared.op_id.OpId.{OpId}
+use Rattle.order_memory.specs.declared.growing_order.Cause.{Cause}
 use Rattle.pattern_search.specs.Steps.Reasons.{IsBefore, IsMarked, IsPremise, RestsOn, last_of}
 use Rattle.pattern_search.proofs.NeededRaises.{marked-more, marks-more}
 use Rattle.pattern_search.proofs.search.needed.need_premises.Goals as goal

@@ -1,8 +1,8 @@
 use Rattle.std.proofs.Common.{◌≡◌, ℕ, arith, refl, sym, subst}
-use Rattle.history.specs.declared.op_id.OpId.{OpId}
-use Rattle.causal_order.specs.Orders.{op}
-use Rattle.causal_order.specs.Vectors.{IsCounted}
-use Rattle.causal_order.proofs.OrdersLaws.{same_op}
+use Rattle.model_history.specs.declared.op_id.OpId.{OpId}
+use Rattle.order_causal.specs.Orders.{op}
+use Rattle.order_causal.specs.Vectors.{IsCounted}
+use Rattle.order_causal.proofs.OrdersLaws.{same_op}
 use Rattle.pattern_search.specs.Steps.Routes.{IsCountedBefore}
 use Rattle.pattern_search.proofs.search.reads.is_counted_before.Goals as goal
 

@@ -1,8 +1,8 @@
 use Rattle.std.proofs.Common.{◌≤◌, length, arith}
 use Rattle.std.proofs.lemmas.Option.{slice_get_within, slice_get-get_or}
-use Rattle.history.specs.declared.op_id.OpId.{OpId}
+use Rattle.model_history.specs.declared.op_id.OpId.{OpId}
 use Rattle.pattern_search.specs.Steps.Routes.{AreWritesBefore}
-use Rattle.memory_order.proofs.Elements.{each-more, listed-at}
+use Rattle.order_memory.proofs.Elements.{each-more, listed-at}
 use Rattle.pattern_search.proofs.ReadPatterns.{past-from_before, no-read, read-found}
 use Rattle.pattern_search.proofs.search.reads.overwritten_read.Goals as goal
 

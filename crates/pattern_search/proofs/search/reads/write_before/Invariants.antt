@@ -1,5 +1,5 @@
 use Rattle.std.proofs.Common.{◌<◌}
-use Rattle.history.specs.declared.op_id.OpId.{OpId}
+use Rattle.model_history.specs.declared.op_id.OpId.{OpId}
 use Rattle.pattern_search.specs.Steps.Routes.{IsWriteBefore}
 use Rattle.pattern_search.proofs.search.reads.write_before.Given as goal
 

@@ -1,6 +1,6 @@
 use Rattle.std.proofs.Common.{◌≡◌, ◌≤◌, ◌∙◌, length, arith, subst, sym}
 use Rattle.std.proofs.lemmas.Option.{same_Some}
-use Rattle.history.specs.declared.op_id.OpId.{OpId}
+use Rattle.model_history.specs.declared.op_id.OpId.{OpId}
 use Rattle.pattern_search.specs.Steps.Routes.{IsCountedBefore}
 use Rattle.pattern_search.proofs.KnownBefore.{counted-before}
 use Rattle.pattern_search.proofs.ReadPatterns.{pair-more, pair-last, pair-ended}

@@ -1,6 +1,6 @@
 use Rattle.std.proofs.Common.{inl, inr, refl, subst, sym}
 use Rattle.std.proofs.lemmas.Option.{get_or_from_slice_get}
-use Rattle.memory_order.specs.declared.growing_order.Raise.{Raise}
+use Rattle.order_memory.specs.declared.growing_order.Raise.{Raise}
 use Rattle.pattern_search.specs.Steps.Reasons.{Raises}
 use Rattle.pattern_search.proofs.search.reasons.nearer.Goals as goal
 

@@ -1,6 +1,6 @@
 use Rattle.std.proofs.Common.{ℕ, ◌<◌}
-use Rattle.causal_order.specs.Orders.{op}
-use Rattle.causal_order.specs.Vectors.{IsCounted}
+use Rattle.order_causal.specs.Orders.{op}
+use Rattle.order_causal.specs.Vectors.{IsCounted}
 use Rattle.pattern_search.proofs.search.routes_back.first_counting.Given as goal
 
 -- no operation so far counts it

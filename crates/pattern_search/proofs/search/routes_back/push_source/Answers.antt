@@ -1,5 +1,5 @@
 use Rattle.std.proofs.Common.{sym, ◌∙◌, Some, None}
-use Rattle.memory_order.proofs.CausalOrders.{entering-source}
+use Rattle.order_memory.proofs.CausalOrders.{entering-source}
 use Rattle.pattern_search.proofs.RoutesBack.{source-before, source-route}
 use Rattle.pattern_search.proofs.search.routes_back.push_source.Goals as goal
 

@@ -1,5 +1,5 @@
 use Rattle.std.proofs.Common.{◌≡◌, arith}
-use Rattle.memory_order.proofs.CausalOrders.{before-fewer}
+use Rattle.order_memory.proofs.CausalOrders.{before-fewer}
 use Rattle.pattern_search.proofs.RoutesBack.{end-route}
 use Rattle.pattern_search.proofs.search.routes_back.route_back.Goals as goal
 

@@ -1,7 +1,7 @@
 use Rattle.std.proofs.Common.{ℕ, reverse}
 use Rattle.std.specs.List.{sum_by}
-use Rattle.bad_patterns.specs.Paths.{GoesFrom}
-use Rattle.causal_order.specs.Vectors.{list_of, IsCounted}
+use Rattle.pattern_check.specs.Paths.{GoesFrom}
+use Rattle.order_causal.specs.Vectors.{list_of, IsCounted}
 use Rattle.pattern_search.proofs.search.routes_back.route_back.Given as goal
 
 -- the operations so far go from what is reached, which has `from` in its past

@@ -1,8 +1,8 @@
 use Rattle.std.proofs.Common.{◌≡◌, ◌≤◌, ap, sym, subst, ◌∙◌}
 use Rattle.std.specs.Prelude.{Some, slice_get}
-use Rattle.history.specs.declared.op_id.OpId.{OpId}
-use Rattle.history.specs.History.{IsOp}
-use Rattle.memory_order.specs.Steps.Indexed.{IsSourcePast}
+use Rattle.model_history.specs.declared.op_id.OpId.{OpId}
+use Rattle.model_history.specs.History.{IsOp}
+use Rattle.order_memory.specs.Steps.Indexed.{IsSourcePast}
 use Rattle.pattern_search.proofs.DraftLines.{first-line, first-listed, first-session, first-up_to}
 use Rattle.pattern_search.proofs.RaisedPairs.{inside-of_history}
 use Rattle.pattern_search.proofs.search.drafts.Draft.line_of.Goals as goal

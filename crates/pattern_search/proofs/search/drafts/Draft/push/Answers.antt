@@ -1,5 +1,5 @@
 use Rattle.std.proofs.Common.{◌≡◌, length, sym, subst, arith}
-use Rattle.bad_patterns.specs.Derivations.{Gives}
+use Rattle.pattern_check.specs.Derivations.{Gives}
 use Rattle.pattern_search.specs.Steps.Drafts.{IsDraft, Lines}
 use Rattle.pattern_search.proofs.DraftLines.{line-more}
 use Rattle.pattern_search.proofs.search.drafts.Draft.push.Goals as goal

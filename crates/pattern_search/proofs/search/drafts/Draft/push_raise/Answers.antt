@@ -1,7 +1,7 @@
 use Rattle.std.proofs.Common.{length, sym, subst, arith}
 use Rattle.std.specs.Prelude.{IfOk}
-use Rattle.history.specs.declared.op_id.OpId.{OpId}
-use Rattle.memory_order.specs.Relations.{AreRivalWrites}
+use Rattle.model_history.specs.declared.op_id.OpId.{OpId}
+use Rattle.order_memory.specs.Relations.{AreRivalWrites}
 use Rattle.pattern_search.specs.Steps.Drafts.{EndsWithin, IsWritten}
 use Rattle.pattern_search.specs.Steps.Reasons.{IsPremise}
 use Rattle.pattern_search.proofs.DraftLines.{ends-more, within-more, written-kept}

@@ -2,7 +2,7 @@ use Rattle.std.proofs.Common.{◌≡◌, ℕ, ◌+◌, ◌<◌, length, sym, sub
 use Rattle.std.specs.Prelude.{Option, Some, slice_get}
 use Rattle.std.specs.BTreeMap.{get}
 use Rattle.std.proofs.lemmas.Option.{slice_get_read, slice_get_within}
-use Rattle.history.specs.declared.op_id.OpId.{OpId}
+use Rattle.model_history.specs.declared.op_id.OpId.{OpId}
 use Rattle.pattern_search.specs.Steps.Reasons.{IsFirstFrom, IsLastOf, by_place, end_of}
 use Rattle.pattern_search.proofs.FirstRaises.{first-begin, first-end, first-step}
 use Rattle.pattern_search.proofs.search.reasons.Reasons.first.Goals as goal

@@ -1,14 +1,14 @@
 use Rattle.std.proofs.Math.Path.{ap₂}
 use Rattle.std.proofs.Common.{◌≡◌, ℕ, ◌+◌, ◌-◌, ◌≤◌, Option, length, ⊎_elim, arith, refl, sym, ap, subst, subst₂, ◌∙◌, inl}
-use Rattle.history.specs.declared.op_id.OpId.{OpId}
-use Rattle.history.specs.History.{IsOp, session}
-use Rattle.memory_order.specs.Memory.{MemoryHistory}
-use Rattle.memory_order.specs.declared.happened_before.Saturation.TheVariants.{Saturated, Cyclic, GivenUp}
-use Rattle.memory_order.specs.HappenedBeforeVectors.{IsHBVectors}
-use Rattle.memory_order.specs.Raises.{AreRightRaises}
-use Rattle.causal_order.specs.Orders.{op}
-use Rattle.memory_order.specs.Steps.GrowthSteps.{IsGivenUp}
-use Rattle.memory_order.specs.Steps.HappenedBefores.{HasFewPairs, HasMorePairs, IsOutcome, most_of, raises_of, session_of, taken_of, vectors_of}
+use Rattle.model_history.specs.declared.op_id.OpId.{OpId}
+use Rattle.model_history.specs.History.{IsOp, session}
+use Rattle.order_memory.specs.Memory.{MemoryHistory}
+use Rattle.order_memory.specs.declared.happened_before.Saturation.TheVariants.{Saturated, Cyclic, GivenUp}
+use Rattle.order_memory.specs.HappenedBeforeVectors.{IsHBVectors}
+use Rattle.order_memory.specs.Raises.{AreRightRaises}
+use Rattle.order_causal.specs.Orders.{op}
+use Rattle.order_memory.specs.Steps.GrowthSteps.{IsGivenUp}
+use Rattle.order_memory.specs.Steps.HappenedBefores.{HasFewPairs, HasMorePairs, IsOutcome, most_of, raises_of, session_of, taken_of, vectors_of}
 use Rattle.pattern_search.proofs.SearchedLaws.{given-up}
 use Rattle.pattern_search.proofs.search.relations.Relation.of_last.Goals as goal
 

@@ -1,7 +1,7 @@
 use Rattle.std.proofs.Common.{◌≡◌, ℕ, ◌+◌, ◌<◌, length}
-use Rattle.memory_order.specs.HappenedBeforeVectors.{IsHBVectors}
-use Rattle.causal_order.specs.Orders.{op}
-use Rattle.memory_order.specs.Steps.HappenedBefores.{HasFewPairs, HasMorePairs, IsMade, most_of, raises_of, session_of, taken_of, vectors_of}
+use Rattle.order_memory.specs.HappenedBeforeVectors.{IsHBVectors}
+use Rattle.order_causal.specs.Orders.{op}
+use Rattle.order_memory.specs.Steps.HappenedBefores.{HasFewPairs, HasMorePairs, IsMade, most_of, raises_of, session_of, taken_of, vectors_of}
 use Rattle.pattern_search.proofs.search.relations.Relation.of_last.Given as goal
 
 -- the relation of the session's operation before the next one

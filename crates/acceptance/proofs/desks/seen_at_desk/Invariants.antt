@@ -1,4 +1,0 @@
-use Rattle.acceptance.proofs.desks.seen_at_desk.Given as goal
-
-abbrev pub ghosts-seen_on : goal.ghosts-seen_on
-ghosts-seen_on g a = record { shelf = a.shelf }

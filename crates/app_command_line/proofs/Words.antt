@@ -1,0 +1,39 @@
+-- The first words of a command line.
+use Rattle.std.proofs.Common.{◌≡◌, ◌<◌, ◌≤◌, ℕ, sym, List, [], ◌∷◌, ◌-◌, ◌∙◌, length, map, drop, take, get_or, ap, subst, arith, Option, MatchOption}
+use Rattle.std.proofs.lemmas.List.{take_all}
+use Rattle.clap.specs.Words.{Text}
+use Rattle.app_command_line.specs.declared.manner.Asked.{Asked}
+use Rattle.app_command_line.specs.declared.sight.Sight.{Sight}
+use Rattle.std.specs.Prelude.{◌⊎◌, codes}
+use Rattle.app_command_line.specs.CommandLine.{AsksForTopic, AsksNothing, IsCommandLine}
+use Rattle.app_command_line.specs.Options.{IsAsked}
+
+-- the words of a command line are the program's name, the word of a command, and the words after it
+pub whole_command : {A : Type 0} (f : A → Text) (sight : Sight) (xs : List A) (word : A) (named : Text) (r : Option Asked) → 2 ≤ length xs
+    → word ≡ get_or xs 1 word → named ≡ f word
+    → MatchOption r ((asked : Asked) → ¬ IsAsked sight asked named (map f (take (length xs - 2) (drop 2 xs))))
+    (λ asked. IsAsked sight asked named (map f (take (length xs - 2) (drop 2 xs))))
+    → MatchOption r (AsksNothing sight (map f xs)) (λ asked. IsCommandLine sight asked (map f xs))
+whole_command f sight [] word named r least here is of = absurd (omega arith)
+whole_command f sight (x ∷ []) word named r least here is of = absurd (omega arith)
+whole_command f sight (x ∷ y ∷ xs) word named r least here is of =
+    subst (λ (w : Text). MatchOption r ((asked : Asked) → ¬ IsAsked sight asked w (map f xs)) (λ asked. IsAsked sight asked w (map f xs))) (is ∙ ap f here)
+    (subst (λ (words : List Text). MatchOption r ((asked : Asked) → ¬ IsAsked sight asked named words) (λ asked. IsAsked sight asked named words))
+    (ap (map f) (take_all (length (x ∷ y ∷ xs) - 2) xs (omega arith))) of)
+
+-- fewer words than two are none
+pub too_few : {A : Type 0} (f : A → Text) (sight : Sight) (xs : List A) → length xs < 2 → AsksNothing sight (map f xs)
+too_few f sight [] few asked is = is
+too_few f sight (x ∷ []) few asked is = is
+too_few f sight (x ∷ y ∷ xs) few asked is = absurd (omega arith)
+
+-- three words ask for what the second and the third of them ask for
+pub third_word : {A : Type 0} (f : A → Text) (xs : List A) (a b : A) (word topic : Text) → length xs ≡ 3 → a ≡ get_or xs 1 a → b ≡ get_or xs 2 b
+    → word ≡ f a → topic ≡ f b → (word ≡ codes "help") × ((topic ≡ codes "forms") ⊎ (topic ≡ codes "refusals")) → AsksForTopic (map f xs)
+third_word f [] a b word topic many first second is also asks = absurd (omega arith)
+third_word f (x ∷ []) a b word topic many first second is also asks = absurd (omega arith)
+third_word f (x ∷ y ∷ []) a b word topic many first second is also asks = absurd (omega arith)
+third_word f (x ∷ y ∷ z ∷ u ∷ xs) a b word topic many first second is also asks = absurd (omega arith)
+third_word f (x ∷ y ∷ z ∷ []) a b word topic many first second is also asks =
+    subst (λ (w : Text). (w ≡ codes "help") × ((f z ≡ codes "forms") ⊎ (f z ≡ codes "refusals"))) (is ∙ ap f first)
+    (subst (λ (t : Text). (word ≡ codes "help") × ((t ≡ codes "forms") ⊎ (t ≡ codes "refusals"))) (also ∙ ap f second) asks)

@@ -1,0 +1,27 @@
+//! Whether the lines of an answer are coloured.
+
+ghost use Rattle.std.specs.Prelude.{◌≡◌, ◌≢◌, MatchOption};
+ghost use Rattle.app_command_line.specs.Options.{color_word};
+
+/// Whether the lines of an answer are coloured.
+#[derive(Clone, Copy, Debug, PartialEq, Eq)]
+pub enum Coloring {
+    /// On a terminal, unless the environment forbids it.
+    Auto,
+    /// Always.
+    Always,
+    /// Never.
+    Never,
+}
+
+/// The colouring that a word names.
+pub fn coloring_in(word: &str) -> Option<Coloring>
+    ensures { MatchOption result ((coloring : Coloring) → word.now ≢ color_word coloring) (λ coloring. word.now ≡ color_word coloring) }
+{
+    match word {
+        "auto" => Some(Coloring::Auto),
+        "always" => Some(Coloring::Always),
+        "never" => Some(Coloring::Never),
+        _ => None,
+    }
+}

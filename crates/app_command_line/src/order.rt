@@ -1,0 +1,204 @@
+//! The command line.
+ghost use Rattle.std.specs.Prelude.{◌≡◌, ◌⊎◌, [], IfErr, IfOk, MatchOption, MatchResult, map};
+ghost use Rattle.clap.specs.Words.{HasKind, fault_of, kind_of};
+ghost use Rattle.app_command_line.specs.CommandLine.{AsksForTopic, AsksNothing, IsCommandLine, IsFault, IsHelp};
+ghost use Rattle.app_command_line.specs.CommandLine.{IsUsageFor, IsUsageOf, command_line};
+
+use crate::detail::Detail;
+use crate::drive::Drive;
+use crate::form::{Form, LongForm};
+use crate::judging::Judging;
+use crate::length::Length;
+use crate::line_judging::LineJudging;
+use crate::listing::Listing;
+use crate::log_order::LogOrder;
+use crate::manner::Asked;
+use crate::misuse::text_of_misuse;
+use crate::options::asked_of;
+use crate::page::Page;
+use crate::program::program;
+use crate::sight::Sight;
+use crate::topics::topic_in;
+use clap::error::ErrorKind;
+use clap::{ArgMatches, Error};
+use judge_workers::Workers;
+use std::alloc::{AllocError, Global};
+use std::convert::AsStr;
+
+/// What a command line asks for.
+#[derive(Clone, Copy, Debug, PartialEq, Eq)]
+pub enum Task {
+    /// An order on an input, which is read whole, or line by line; and how much the program says if the input is refused.
+    OfInput(Order, Detail),
+    /// A page on an input or on a log of events; and how much the program says if the input is refused.
+    OfPage(Page, Detail),
+    /// An order on a log of events, which is read event by event.
+    OfLog(LogOrder),
+}
+
+/// A command on an input, with its options.
+#[derive(Clone, Copy, Debug, PartialEq, Eq)]
+pub enum Order {
+    /// Judges the history in the input.
+    Judge(Judging),
+    /// Judges the history in each line of the input.
+    JudgeLines(LineJudging),
+    /// Checks the certificate in the input against the history in it, by so many workers.
+    Check(Workers),
+    /// Says in this form why each criterion is met or not met by the history in the input, or why that is unknown.
+    Explain(Form),
+    /// Says the same of the memory history in the input, which may have any length.
+    ExplainLong(LongForm),
+    /// Says it too, and lists reads of the history in the input that show a fault.
+    ListFaults(Listing),
+    /// Checks that the pattern in the input shows that the history in it, which may be that long, does not meet a criterion.
+    Refute(Length),
+    /// Runs the script in the input.
+    Replay,
+    /// Drives a store with the calls of the history in the input.
+    Drive(Drive),
+}
+
+/// Why a command line gives no task.
+#[derive(Debug, Drop)]
+pub enum Usage {
+    /// It is no command line of this program: what is wrong with it, and how the program is used.
+    Fault(String),
+    /// It asks for help, or for the version: the text to show.
+    Help(String),
+    /// Memory ran out.
+    Memory,
+}
+
+/// What a command line asks for on an input that looks so. A command line is the program's name, the word of a command, and then what the
+/// command takes, in any order and each at most once.
+///
+/// - `judge` takes `--workers N` for a number from 1 to 16, or nothing for 2; and `--expect LIST`, where the list is one or more of
+///   `cc`, `cm` and `ccv`, each at most once, joined by commas; and `--lines`, and then `--skip-blank`; and `--long`; and without
+///   `--lines`, `--events`, and then `--every N` for a number from 1 to 2,147,483,647; and without `--lines`, `--summary`, and
+///   `--at-least-reads N` for such a number.
+/// - `check` takes `--workers N`.
+/// - `explain` takes nothing, `--json`, `--json` and `--certificates`, `--svg`, or `--html`. With `--long` or `--events` it does not take
+///   `--certificates`, and with `--all N`, for a number from 1 to 1,000,000, neither `--certificates` nor `--svg`. It takes `-o FILE`.
+/// - `refute` takes `--long`, and `events` takes `--names`.
+/// - `drive` takes `causal` or `lamport`, which can't be left out, `--eager`, `--seals N` for a number from 0 to 8, or nothing for 0,
+///   `--workers N`, and `--stop S` for a number from 0 to 15.
+/// - `judge` without `--lines`, `check`, `explain`, `refute`, `replay` and `drive` take `--why`.
+/// - `judge` and `explain` take `--color WHEN`, for `auto`, `always` or `never`.
+///
+/// An option and its value are two words, or one as in `--workers=N`. Every command takes any number of files: words that begin with no
+/// hyphen, or are a hyphen. A file named `causal` or `lamport` is written `./causal`.
+///
+/// On an input that looks like a log, `--events` counts as said; on one that looks like a memory history, `--long` does, but with
+/// `--certificates`; and on each input that was looked at, `--why`.
+///
+/// Any other words give a `Usage`. It is `Help` for `help forms` and `help refusals`, and where `clap` finds a request for help or for
+/// the version, and `Fault` for all
+/// else: an unknown command, option or further word, no command, or a number or list that is missing or that the option doesn't
+/// take. If memory ran out, it is `Memory` instead of either.
+pub fn command_of<S: AsStr>(alloc: Global, words: &[S], sight: Sight) -> Result<Asked, Usage>
+    ensures asked { MatchResult result (λ asked. IsCommandLine sight asked (map S.text words.now))
+        (λ _. AsksNothing sight (map S.text words.now)) }
+    ensures usage { IfErr result (λ usage. IsUsageFor (fault_of command_line (map S.text words.now)) usage
+        ⊎ (AsksForTopic (map S.text words.now) × IsHelp usage)) }
+{
+    match asked_in(words, sight) {
+        Some(asked) => Ok(asked),
+        None => match topic_in(words) {
+            Some(topic) => Err(help_on(alloc, topic)),
+            None => Err(usage_of(alloc, words)),
+        },
+    }
+}
+
+/// What a command line asks for on an input that looks so, where it is one.
+pub fn asked_in<S: AsStr>(words: &[S], sight: Sight) -> Option<Asked>
+    ensures { MatchOption result (AsksNothing sight (map S.text words.now)) (λ asked. IsCommandLine sight asked (map S.text words.now)) }
+{
+    let [_, word, further @ ..] = words else {
+        return None;
+    };
+    asked_of(sight, word.as_str(), further)
+}
+
+// What the program says of words that give no task. `clap` would take a few of them, as `judge --`.
+fn usage_of<S: AsStr>(alloc: Global, words: &[S]) -> Usage
+    ensures { IsUsageFor (fault_of command_line (map S.text words.now)) result }
+{
+    match matches_of(alloc, words) {
+        Ok(_) => fault_of_misuse(alloc, words),
+        Err(error) => usage_by(alloc, &error),
+    }
+}
+
+// The help on a topic.
+fn help_on(alloc: Global, topic: &str) -> Usage
+    ensures { IsHelp result }
+{
+    match String::from_str(alloc, topic) {
+        Ok(text) => Usage::Help(text),
+        Err(_) => Usage::Memory,
+    }
+}
+
+// What the program says of words that `clap` takes but that give no task.
+fn fault_of_misuse<S: AsStr>(alloc: Global, words: &[S]) -> Usage
+    ensures { IsUsageFor [] result }
+{
+    match text_of_misuse(alloc, words) {
+        Ok(text) => Usage::Fault(text),
+        Err(_) => Usage::Memory,
+    }
+}
+
+/// The fault that this text describes, or `Memory`.
+pub fn fault_with(alloc: Global, text: &str) -> Usage
+    ensures { IsUsageFor [] result }
+{
+    match String::from_str(alloc, text) {
+        Ok(text) => Usage::Fault(text),
+        Err(_) => Usage::Memory,
+    }
+}
+
+// What `clap` makes of the words.
+fn matches_of<'a, S: AsStr>(alloc: Global, words: &'a [S]) -> Result<ArgMatches<'a>, Error>
+    ensures accepted { IfOk result (λ _. fault_of command_line (map S.text words.entry.now) ≡ []) }
+    ensures refused { IfErr result (HasKind (fault_of command_line (map S.text words.entry.now))) }
+{
+    program(alloc)?.try_get_matches_from(words)
+}
+
+// A fault as `clap` words it, without its advice to pass an option as a value after `--`, which no command takes.
+fn fault_without_tip(alloc: Global, text: &str) -> Usage
+    ensures { IsFault result }
+{
+    match text_without_tip(alloc, text) {
+        Ok(text) => Usage::Fault(text),
+        Err(_) => Usage::Memory,
+    }
+}
+
+fn text_without_tip(alloc: Global, text: &str) -> Result<String, AllocError> {
+    let mut kept = String::new(alloc);
+    let mut is_after_tip = false;
+    for line in text.split_inclusive('\n') {
+        let is_tip = line.starts_with("  tip: to pass '");
+        if !is_tip && !is_after_tip {
+            kept.push_str(line)?;
+        }
+        is_after_tip = is_tip;
+    }
+    Ok(kept)
+}
+
+// What the program says of an error of `clap`.
+fn usage_by(alloc: Global, error: &Error) -> Usage
+    ensures { IsUsageOf (kind_of error.now) result }
+{
+    match (error.kind(), error.to_string(alloc)) {
+        (ErrorKind::OutOfMemory, _) | (_, Err(_)) => Usage::Memory,
+        (ErrorKind::DisplayHelp | ErrorKind::DisplayVersion, Ok(text)) => Usage::Help(text),
+        (_, Ok(text)) => fault_without_tip(alloc, &text),
+    }
+}

@@ -1,0 +1,5 @@
+use Rattle.app_engine.proofs.Outcomes.{reported_long}
+use Rattle.app_engine.proofs.laws.long_report_is_on_the_history_of_its_input.Goals as goal
+
+pub returns : goal.returns
+returns c = reported_long

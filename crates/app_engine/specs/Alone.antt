@@ -1,0 +1,8 @@
+-- How the calling thread alone judges a history.
+use Rattle.app_command_line.specs.declared.judging.Judging.{Judging}
+use Rattle.app_command_line.specs.declared.length.Length.TheVariants.{Limited}
+use Rattle.app_command_line.specs.Expected.{expecting_nothing}
+
+-- as one worker does, and nothing is expected of the history
+abbrev pub judging_alone : Judging
+judging_alone = record { workers = 1; expected = expecting_nothing; length = Limited }

@@ -1,0 +1,60 @@
+-- Why each criterion is met, not met, or unknown, as JSON.
+use Rattle.std.specs.Prelude.{◌≡◌, ℕ, List, [], ◌∷◌, ◌++◌, codes, Some, None}
+use Rattle.serde_json.specs.Data.{Data, null, string}
+use Rattle.serde_json.specs.Written.{compact_text}
+use Rattle.json_histories.specs.declared.any_history.AnyHistory.{AnyHistory}
+use Rattle.json_histories.specs.AnyForm.{form_of, IsJson}
+use Rattle.json_histories.specs.Json.{list}
+use Rattle.json_histories.specs.Reads.{worded}
+use Rattle.cert_check.specs.declared.criterion.Criterion.{Criterion}
+use Rattle.cert_check.specs.declared.criterion.Criterion.TheVariants.{Cc, Cm, Ccv}
+use Rattle.cert_check.specs.CriterionNames.{name_of}
+use Rattle.pattern_check.specs.KindNames.{kind_name}
+use Rattle.pattern_json.specs.PatternForm.{form_of as pattern_form, op_form}
+use Rattle.app_command_line.specs.declared.length.Length.{Length}
+use Rattle.app_command_line.specs.declared.length.Length.TheVariants.{Limited}
+use Rattle.app_findings.specs.declared.finding.Finding.{Finding}
+use Rattle.app_findings.specs.declared.finding.Finding.TheVariants.{Met, Shown, Present, Unexplained}
+use Rattle.app_findings.specs.declared.finding.Findings.{Findings}
+use Rattle.app_findings.specs.Findings.{EachIsFinding}
+use Rattle.app_explanations.specs.Lengths.{IsHistoryOf}
+
+-- whether the criterion is met
+abbrev pub word_of : Finding → List ℕ
+word_of (Met certificate) = codes "yes"
+word_of (Shown pattern) = codes "no"
+word_of (Present kind) = codes "no"
+word_of (Unexplained place certificate) = codes "unknown"
+
+-- what shows it, without certificates
+abbrev pub shown_form : Finding → Data
+shown_form (Met certificate) = null
+shown_form (Shown pattern) = pattern_form pattern
+shown_form (Present kind) = string (kind_name kind)
+shown_form (Unexplained None certificate) = null
+shown_form (Unexplained (Some o) certificate) = op_form o
+
+-- the form of a finding: the name of the criterion, whether it is met, and what shows it
+abbrev pub finding_form : Criterion → Finding → Data
+finding_form criterion finding = worded (name_of criterion) (string (word_of finding) ∷ shown_form finding ∷ [])
+
+-- the form of findings, one for each criterion
+abbrev pub findings_form : Findings → Data
+findings_form findings = list (finding_form Cc findings.cc ∷ finding_form Cm findings.cm ∷ finding_form Ccv findings.ccv ∷ [])
+
+-- the text says what is true of the history in the input, which may be that long: it is the JSON text of what is said, and a line feed
+pub record IsToldOf {T : Type 0} (long : Length) (form : T → Data) (is_so : AnyHistory → T → Type 0) (input text : List ℕ) : Type 0 where
+  pub history : AnyHistory
+  pub said : T
+  pub is_history : IsHistoryOf long history
+  pub read : IsJson input (form_of history)
+  pub true_of : is_so history said
+  pub json : IsJson (compact_text (form said)) (form said)
+  pub whole : text ≡ compact_text (form said) ++ codes "\n"
+
+-- the text explains the history in the input, which may be that long, by the findings, each of which is one of that history
+abbrev pub IsExplanationAt : Length → List ℕ → List ℕ → Type 0
+IsExplanationAt long = IsToldOf long findings_form EachIsFinding
+
+abbrev pub IsExplanation : List ℕ → List ℕ → Type 0
+IsExplanation = IsExplanationAt Limited

@@ -1,0 +1,488 @@
+//! Reads of a history that show a fault, in a list.
+
+ghost use Rattle.std.specs.Prelude.{◌≡◌, ◌∷◌, ◌++◌, [], codes, option_map, IfOk, OnOk, string_bytes};
+ghost use Rattle.serde_json.specs.View.{view};
+ghost use Rattle.serde_json.specs.Written.{compact_text};
+ghost use Rattle.json_histories.specs.AnyForm.{IsJson};
+ghost use Rattle.json_histories.specs.Json.{list};
+ghost use Rattle.app_findings.specs.Findings.{EachIsFinding};
+ghost use Rattle.app_explanations.specs.ExplainingInWords.{TellsEach};
+ghost use Rattle.app_explanations.specs.ListingFaults.{AreFaultsIn, fault_report_form, list_form};
+ghost use Rattle.app_explanations.specs.ListTexts.{AreLinesAfter, IsListInWords, IsListOf, IsLongOf};
+
+use crate::examined::Examined;
+use crate::finding_forms::findings_value;
+use crate::finding_lines::lines_of_finding;
+use crate::finding_text::{indented_text, text_with_lines};
+use crate::long_explaining::{LongFindings, findings_of_long};
+use crate::long_words::lines_of_found;
+use crate::written::line_of_value;
+use app_command_line::ListForm;
+use app_findings::{Finding, Findings, Kept, PieceWork, findings_of, findings_of_memory};
+use cert_check::Criterion;
+use json_histories::{AnyHistory, History};
+use judge_decision::SessionWork;
+use judge_memory::{LongHistory, LongIndex};
+use judge_reader::small;
+use judge_workers::{WorkerThreads, Workers};
+use model_objects::Memory;
+use order_memory::IndexedMemory;
+use pattern_check::Kind;
+use serde_json::Value;
+use show_faults::{Faults, count_lines, fault_line, faults_value, find_faults};
+use show_words::Names;
+use std::alloc::{AllocError, Global};
+use std::sync::Wait;
+use std::thread::Threads;
+
+/// Why a history meets each criterion or does not, and its reads that show a fault. There is no list of such reads where values
+/// are not distinct, nor for objects that have no keys to read.
+#[derive(Drop)]
+pub struct FaultReport {
+    pub findings: Findings,
+    pub faults: Option<Faults>,
+}
+
+/// The list of a memory history of any length, with these names.
+///
+/// Fails for want of memory alone. It costs what the findings cost, and O(n k) for n operations of k sessions.
+pub fn list_in_long<T: Threads + Wait + Sync, N: Names>(
+    rt: &T,
+    alloc: Global,
+    history: &LongHistory,
+    names: &N,
+    most: u32,
+    form: ListForm,
+) -> Result<String, AllocError>
+    ensures { IfOk result (λ text. IsListOf form most (AnyHistory.Memory history.now) (string_bytes text)) }
+{
+    match small(alloc, history)? {
+        Some(small) => {
+            let small = AnyHistory::Memory(small);
+            list_in_limited(rt, alloc, small, Some(history), names, most, form)
+        }
+        None => {
+            let work = WorkerThreads::of(rt, Workers::usual());
+            list_in_larger(&work, alloc, history, names, most, form)
+        }
+    }
+}
+
+/// The list of a history within the limits. A memory history is given a second time, as one of any length.
+///
+/// Fails for want of memory alone. It costs what the findings cost, and O(n k) for n operations of k sessions.
+pub fn list_in_limited<T: Threads + Wait + Sync, N: Names>(
+    rt: &T,
+    alloc: Global,
+    history: AnyHistory,
+    long: Option<&LongHistory>,
+    names: &N,
+    most: u32,
+    form: ListForm,
+) -> Result<String, AllocError>
+    requires { IsLongOf history (option_map (λ g. g.now) long) }
+    ensures { IfOk result (λ text. IsListOf form most history (string_bytes text)) }
+{
+    let work = WorkerThreads::of(rt, Workers::usual());
+    let text = match form {
+        ListForm::Words => words_in_limited(&work, alloc, &history, long, names, most),
+        ListForm::Json => json_in_limited(&work, alloc, &history, long, names, most),
+    };
+    history.discard();
+    text
+}
+
+// That list in words.
+fn words_in_limited<W: PieceWork, N: Names>(
+    work: &W,
+    alloc: Global,
+    history: &AnyHistory,
+    long: Option<&LongHistory>,
+    names: &N,
+    most: u32,
+) -> Result<String, AllocError>
+    requires { W.can_check work.now }
+    ensures { IfOk result (λ text. IsListInWords history.now (string_bytes text)) }
+{
+    match history {
+        AnyHistory::Memory(memory) => words_on_memory(work, alloc, memory, long, names, most),
+        AnyHistory::Register(_)
+        | AnyHistory::Counter(_)
+        | AnyHistory::Set(_)
+        | AnyHistory::Queue(_)
+        | AnyHistory::Counters(_)
+        | AnyHistory::Sets(_)
+        | AnyHistory::Queues(_) => words_on_object(work, alloc, history, long, names, most),
+    }
+}
+
+// That list of a memory in words. What is known of it is made once.
+fn words_on_memory<W: PieceWork, N: Names>(
+    work: &W,
+    alloc: Global,
+    history: &History<Memory>,
+    long: Option<&LongHistory>,
+    names: &N,
+    most: u32,
+) -> Result<String, AllocError>
+    requires { W.can_check work.now }
+    ensures { IfOk result (λ text. IsListInWords (AnyHistory.Memory history.now) (string_bytes text)) }
+{
+    let memory = IndexedMemory::of(alloc, history)?;
+    let findings = findings_of_memory(work, alloc, &memory, Kept::Reasons)?;
+    let text = words_on_findings(
+        alloc,
+        Examined::Memory(&memory),
+        long,
+        names,
+        &findings,
+        most,
+    );
+    drop(findings);
+    text
+}
+
+// That list of another object in words.
+fn words_on_object<W: PieceWork, N: Names>(
+    work: &W,
+    alloc: Global,
+    history: &AnyHistory,
+    long: Option<&LongHistory>,
+    names: &N,
+    most: u32,
+) -> Result<String, AllocError>
+    requires { W.can_check work.now }
+    ensures { IfOk result (λ text. IsListInWords history.now (string_bytes text)) }
+{
+    let findings = findings_of(work, alloc, history, Kept::Reasons)?;
+    let text = words_on_findings(
+        alloc,
+        Examined::Object(history),
+        long,
+        names,
+        &findings,
+        most,
+    );
+    drop(findings);
+    text
+}
+
+// That list in words, with these findings.
+fn words_on_findings<N: Names>(
+    alloc: Global,
+    history: Examined<'_, '_>,
+    long: Option<&LongHistory>,
+    names: &N,
+    findings: &Findings,
+    most: u32,
+) -> Result<String, AllocError>
+    ensures { IfOk result (λ text. AreLinesAfter findings.now (string_bytes text)) }
+{
+    let first = text_in_list(alloc, history, names, findings)?;
+    let mut lines = fault_lines_of_any(alloc, long, names, most)?;
+    names.push_remarks(alloc, &mut lines)?;
+    joined(alloc, &first, &lines)
+}
+
+// That list as JSON.
+fn json_in_limited<W: PieceWork, N: Names>(
+    work: &W,
+    alloc: Global,
+    history: &AnyHistory,
+    long: Option<&LongHistory>,
+    names: &N,
+    most: u32,
+) -> Result<String, AllocError>
+    requires can_check { W.can_check work.now }
+    requires long { IsLongOf history.now (option_map (λ g. g.now) long) }
+    ensures { IfOk result (λ text. IsListOf ListForm.Json most history.now (string_bytes text)) }
+{
+    let faults = faults_of_any(alloc, history, long, names, most)?;
+    let findings = findings_of(work, alloc, history, Kept::Patterns)?;
+    let report = FaultReport { findings, faults };
+    let text = text_of_report(alloc, &report);
+    drop(report);
+    text
+}
+
+// The list of a history over the limits.
+fn list_in_larger<W: SessionWork, N: Names>(
+    work: &W,
+    alloc: Global,
+    history: &LongHistory,
+    names: &N,
+    most: u32,
+    form: ListForm,
+) -> Result<String, AllocError>
+    requires { W.can_work work.now }
+    ensures { IfOk result (λ text. IsListOf form most (AnyHistory.Memory history.now) (string_bytes text)) }
+{
+    let said = findings_of_long(work, alloc, history)?;
+    match form {
+        ListForm::Words => {
+            let text = words_in_larger(alloc, history, names, &said, most);
+            drop(said);
+            text
+        }
+        ListForm::Json => {
+            let LongFindings { findings, found } = said;
+            drop(found);
+            json_in_larger(alloc, history, names, findings, most)
+        }
+    }
+}
+
+// That list in words.
+fn words_in_larger<N: Names>(
+    alloc: Global,
+    history: &LongHistory,
+    names: &N,
+    said: &LongFindings,
+    most: u32,
+) -> Result<String, AllocError>
+    ensures { IfOk result (λ text. AreLinesAfter said.now.findings (string_bytes text)) }
+{
+    let first = long_text_in_list(alloc, history, names, said)?;
+    let mut lines = fault_lines_of(alloc, history, names, most)?;
+    names.push_remarks(alloc, &mut lines)?;
+    joined(alloc, &first, &lines)
+}
+
+// That list as JSON.
+fn json_in_larger<N: Names>(
+    alloc: Global,
+    history: &LongHistory,
+    names: &N,
+    findings: Findings,
+    most: u32,
+) -> Result<String, AllocError>
+    requires { EachIsFinding (AnyHistory.Memory history.now) findings }
+    ensures { IfOk result (λ text. IsListOf ListForm.Json most (AnyHistory.Memory history.now) (string_bytes text)) }
+{
+    match faults_of(alloc, history, names, most) {
+        Ok(faults) => {
+            let report = FaultReport { findings, faults };
+            let text = text_of_report(alloc, &report);
+            drop(report);
+            text
+        }
+        Err(no_memory) => {
+            drop(findings);
+            Err(no_memory)
+        }
+    }
+}
+
+// The text of findings, and lines after it.
+fn joined(alloc: Global, first: &str, lines: &[String]) -> Result<String, AllocError>
+    ensures { IfOk result (λ text. (findings : Findings) → TellsEach findings first.now
+        → AreLinesAfter findings (string_bytes text)) }
+{
+    let rest = indented_text(alloc, lines)?;
+    format!(in alloc; "{first}{rest}")
+}
+
+// The faults of a memory history.
+fn faults_of<N: Names>(
+    alloc: Global,
+    history: &LongHistory,
+    names: &N,
+    most: u32,
+) -> Result<Option<Faults>, AllocError>
+    ensures { IfOk result (AreFaultsIn most (AnyHistory.Memory history.now)) }
+{
+    match LongIndex::of(alloc, history)? {
+        Some(index) => Ok(Some(find_faults(alloc, &index, names, most as usize)?)),
+        None => Ok(None),
+    }
+}
+
+// The faults of a history of any object: those of a memory.
+#[tactic(auto, using(crate::proofs::ListedTexts::faults_of_long, crate::proofs::ListedTexts::no_faults))]
+fn faults_of_any<N: Names>(
+    alloc: Global,
+    _history: &AnyHistory,
+    long: Option<&LongHistory>,
+    names: &N,
+    most: u32,
+) -> Result<Option<Faults>, AllocError>
+    requires { IsLongOf _history.now (option_map (λ g. g.now) long) }
+    ensures { IfOk result (AreFaultsIn most _history.now) }
+{
+    match long {
+        Some(long) => faults_of(alloc, long, names, most),
+        None => Ok(None),
+    }
+}
+
+// The lines on the faults of a history of any object.
+fn fault_lines_of_any<N: Names>(
+    alloc: Global,
+    long: Option<&LongHistory>,
+    names: &N,
+    most: u32,
+) -> Result<Vec<String>, AllocError> {
+    match long {
+        Some(long) => fault_lines_of(alloc, long, names, most),
+        None => one_line(alloc, "No faults of single reads are known of this object."),
+    }
+}
+
+// The lines on the faults of a memory history: how many there are, and some of them.
+fn fault_lines_of<N: Names>(
+    alloc: Global,
+    history: &LongHistory,
+    names: &N,
+    most: u32,
+) -> Result<Vec<String>, AllocError> {
+    let Some(index) = LongIndex::of(alloc, history)? else {
+        return one_line(
+            alloc,
+            "A read does not name its write, since values are not distinct: so no fault is known.",
+        );
+    };
+    let lines = lines_of_index(alloc, &index, names, most);
+    drop(index);
+    lines
+}
+
+// The same of a history whose reads name their writes.
+fn lines_of_index<N: Names>(
+    alloc: Global,
+    index: &LongIndex,
+    names: &N,
+    most: u32,
+) -> Result<Vec<String>, AllocError> {
+    let found = find_faults(alloc, index, names, most as usize)?;
+    let mut lines = count_lines(alloc, names, &found)?;
+    for (place, fault) in found.listed.iter().enumerate() {
+        lines.push(fault_line(alloc, index, names, fault, found.broken.at(place))?)?;
+    }
+    Ok(lines)
+}
+
+fn one_line(alloc: Global, words: &'static str) -> Result<Vec<String>, AllocError> {
+    let mut lines = Vec::new(alloc);
+    lines.push(String::from_str(alloc, words)?)?;
+    Ok(lines)
+}
+
+// The JSON text of a report, and a line feed.
+fn text_of_report(alloc: Global, report: &FaultReport) -> Result<String, AllocError>
+    ensures whole { IfOk result (λ text. string_bytes text ≡ compact_text (fault_report_form report.now) ++ codes "\n") }
+    ensures json { OnOk result (IsJson (compact_text (fault_report_form report.now)) (fault_report_form report.now)) }
+{
+    let value = value_of_report(alloc, report)?;
+    line_of_value(alloc, &value)
+}
+
+// The form of a report.
+fn value_of_report(alloc: Global, report: &FaultReport) -> Result<Value, AllocError>
+    ensures { IfOk result (λ value. view value ≡ fault_report_form report.now) }
+{
+    let findings = findings_value(alloc, &report.findings)?;
+    let faults = value_of_faults(alloc, &report.faults)?;
+    let mut values = Vec::new(alloc);
+    values.push(findings)?;
+    values.push(faults)?;
+    Ok(Value::Array(values))
+}
+
+// The form of the faults, if there are any.
+fn value_of_faults(alloc: Global, faults: &Option<Faults>) -> Result<Value, AllocError>
+    ensures { IfOk result (λ value. view value ≡ list_form faults.now) }
+{
+    match faults {
+        Some(faults) => faults_value(alloc, faults),
+        None => Ok(Value::Null),
+    }
+}
+
+// The text of what is found of a history within the limits.
+fn text_in_list<N: Names>(
+    alloc: Global,
+    history: Examined<'_, '_>,
+    names: &N,
+    said: &Findings,
+) -> Result<String, AllocError>
+    ensures { IfOk result (λ text. TellsEach said.now (string_bytes text)) }
+{
+    let lines = lines_in_list(alloc, history, names, Criterion::Cc, &said.cc, None)?;
+    let cc = text_with_lines(alloc, Criterion::Cc, &said.cc, &lines)?;
+    let before = kind_in(&said.cc);
+    let lines = lines_in_list(alloc, history, names, Criterion::Cm, &said.cm, before)?;
+    let cm = text_with_lines(alloc, Criterion::Cm, &said.cm, &lines)?;
+    let lines = lines_in_list(alloc, history, names, Criterion::Ccv, &said.ccv, before)?;
+    let ccv = text_with_lines(alloc, Criterion::Ccv, &said.ccv, &lines)?;
+    format!(in alloc; "{cc}{cm}{ccv}")
+}
+
+// The lines of a finding: none where the list has the reads that show it, or the kind was shown before.
+fn lines_in_list<N: Names>(
+    alloc: Global,
+    history: Examined<'_, '_>,
+    names: &N,
+    criterion: Criterion,
+    finding: &Finding,
+    before: Option<Kind>,
+) -> Result<Vec<String>, AllocError> {
+    if is_shown_apart(finding, before) {
+        lines_of_finding(alloc, history, names, criterion, finding)
+    } else {
+        Ok(Vec::new(alloc))
+    }
+}
+
+// The text of what is found of a history over the limits.
+fn long_text_in_list<N: Names>(
+    alloc: Global,
+    history: &LongHistory,
+    names: &N,
+    said: &LongFindings,
+) -> Result<String, AllocError>
+    ensures { IfOk result (λ text. TellsEach said.now.findings (string_bytes text)) }
+{
+    let findings = &said.findings;
+    let lines = long_lines_in_list(alloc, history, names, said, &findings.cc, None)?;
+    let cc = text_with_lines(alloc, Criterion::Cc, &findings.cc, &lines)?;
+    let before = kind_in(&findings.cc);
+    let lines = long_lines_in_list(alloc, history, names, said, &findings.cm, before)?;
+    let cm = text_with_lines(alloc, Criterion::Cm, &findings.cm, &lines)?;
+    let lines = long_lines_in_list(alloc, history, names, said, &findings.ccv, before)?;
+    let ccv = text_with_lines(alloc, Criterion::Ccv, &findings.ccv, &lines)?;
+    format!(in alloc; "{cc}{cm}{ccv}")
+}
+
+// The lines of a finding on a history over the limits, as above.
+fn long_lines_in_list<N: Names>(
+    alloc: Global,
+    history: &LongHistory,
+    names: &N,
+    said: &LongFindings,
+    finding: &Finding,
+    before: Option<Kind>,
+) -> Result<Vec<String>, AllocError> {
+    match kind_in(finding) {
+        Some(kind) if is_shown_apart(finding, before) => {
+            lines_of_found(alloc, history, names, said, kind)
+        }
+        _ => Ok(Vec::new(alloc)),
+    }
+}
+
+// The kind of a finding that is a no.
+fn kind_in(finding: &Finding) -> Option<Kind> {
+    match finding {
+        Finding::Shown(pattern) => Some(pattern.kind()),
+        Finding::Present(kind) => Some(*kind),
+        Finding::Met(_) | Finding::Unexplained(_, _) => None,
+    }
+}
+
+// Whether a finding names a kind that no single read shows, and that was not shown before.
+fn is_shown_apart(finding: &Finding, before: Option<Kind>) -> bool {
+    match kind_in(finding) {
+        None | Some(Kind::ThinAirRead | Kind::WriteCOInitRead | Kind::WriteCORead) => false,
+        kind => kind != before,
+    }
+}

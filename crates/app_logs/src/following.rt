@@ -1,0 +1,69 @@
+//! Carrying out an order on a log.
+
+ghost use Rattle.std.specs.Prelude.{◌≡◌, ◌≢◌, ℕ, None, Some, IfErr, IfOk};
+ghost use Rattle.app_logs.specs.LogAnswers.{FollowsLog, IsLogError, WritesFirstCuts, every_in, expected_in};
+
+use crate::answering::answer_log;
+use crate::failure::LogError;
+use crate::watching::{Watch, watch_log};
+use app_command_line::{LogJudging, LogOrder};
+use app_engine::WorkerThreads;
+use json_lines::{Outcome, Source};
+use std::io::Write;
+use std::sync::Wait;
+use std::thread::Threads;
+
+/// The outcome for a log.
+#[derive(Clone, Copy, Debug, PartialEq, Eq)]
+pub struct Followed {
+    /// The outcome for the criteria that are expected to be met.
+    pub outcome: Outcome,
+    /// Whether the log's last line is incomplete, and was skipped.
+    pub torn: bool,
+}
+
+/// Carries out an order on the log that a source has, one event a line, and writes the answer.
+///
+/// With `every` in the order, it judges the log after each so many events and at its end, and writes each line before it reads more; it
+/// ends early at the first cut whose outcome is not the expected one. Else it reads the whole log before it makes the answer, and makes
+/// the whole answer before it writes it.
+///
+/// Fails with the first line that is refused, for want of memory, and where the source or the writer fails; also with `Memory` if
+/// `every` is 0, which no command line gives. After every error except a write fault it has written nothing, or with `every` the lines
+/// on some first cuts, each as expected. Of a line that is refused it appends what `error_lines` says of it besides its reason.
+/// O(n (k + log n)) for a history of n operations in k sessions, for each cut, and the cost of
+/// reading.
+pub fn follow_log<P: Threads + Wait + Sync + AllocGlobal, R: Source, W: Write>(
+    rt: &P,
+    source: &mut R,
+    writer: &mut W,
+    order: &LogOrder,
+    told: &mut String,
+) -> Result<Followed, LogError>
+    ensures followed { IfOk result (FollowsLog order.now (R.remaining source.old) (R.remaining source.new)
+        (W.contents writer.old) (W.contents writer.new)) }
+    ensures error { IfErr result (IsLogError (R.remaining source.old)) }
+    ensures unwritten { every_in order.now ≡ None → IfErr result (λ e. e ≢ LogError.WriteFault → writer.new ≡ writer.old) }
+    ensures first_cuts { (every : ℕ) → every_in order.now ≡ Some every → IfErr result (λ e. e ≢ LogError.WriteFault
+        → WritesFirstCuts every (expected_in order.now) (R.remaining source.old) (W.contents writer.old) (W.contents writer.new)) }
+{
+    match order {
+        LogOrder::Judge(
+            LogJudging {
+                workers,
+                expected,
+                every: Some(every),
+            },
+        ) => {
+            let work = WorkerThreads::of(rt, *workers);
+            let watch = Watch {
+                work: &work,
+                alloc: rt.alloc(),
+                expected: *expected,
+                every: *every,
+            };
+            watch_log(&watch, source, writer, told)
+        }
+        _ => answer_log(rt, source, writer, order, told),
+    }
+}

@@ -1,0 +1,101 @@
+//! What a log that was read says about the operations of its history, and about its names.
+
+use json_histories::OpId;
+use log_events::LoggedCall;
+use log_reader::{EventReader, Names, Note};
+use order_causal::Rows;
+use show_log_names::{CallNote, LogTables, StoodFor};
+use std::alloc::{AllocError, Global};
+
+/// What a log that was read says about the operations of its history, and about its names.
+#[derive(Drop)]
+pub(crate) struct Tables<'a> {
+    reader: &'a EventReader,
+    /// For each session of the history, the calls that its operations represent.
+    calls: Rows<LoggedCall>,
+    /// The keys with reads that are left out, each with the number of these reads.
+    left_out: Vec<(u32, u32)>,
+}
+
+impl<'a> Tables<'a> {
+    /// The tables of a log.
+    ///
+    /// Fails for want of memory alone. O(n log n) for n calls.
+    pub(crate) fn of(alloc: Global, reader: &'a EventReader) -> Result<Tables<'a>, AllocError> {
+        Ok(Tables {
+            reader,
+            calls: reader.log().origins(alloc)?,
+            left_out: reader.log().left_out(alloc)?,
+        })
+    }
+}
+
+/// The line of the event at a place of a log, or 0 where there is none.
+pub(crate) fn line_at(reader: &EventReader, place: u32) -> u32 {
+    if place < reader.log().events() {
+        reader.line_of(place as usize)
+    } else {
+        0
+    }
+}
+
+/// The name of this number, or the number itself where there is none.
+pub(crate) fn name_in(alloc: Global, names: &Names, number: u32) -> Result<String, AllocError> {
+    if (number as usize) < names.len() {
+        names.text(alloc, number)
+    } else {
+        format!(in alloc; "{number}")
+    }
+}
+
+impl LogTables for Tables<'_> {
+    fn stood_for(&self, op: OpId) -> Option<StoodFor> {
+        let session = op.session_place();
+        if session >= self.calls.len() {
+            return None;
+        }
+        let call = self.calls.get(session).get(op.place())?;
+        Some(StoodFor {
+            client: call.client(),
+            place: call.place(),
+            call: call.call(),
+            ending: call.ending(),
+        })
+    }
+
+    fn clients(&self) -> u64 {
+        u64::from(self.reader.log().clients())
+    }
+
+    fn line(&self, place: u32) -> u64 {
+        u64::from(line_at(self.reader, place))
+    }
+
+    fn client_name(&self, alloc: Global, client: u32) -> Result<String, AllocError> {
+        name_in(alloc, self.reader.clients(), client)
+    }
+
+    fn key_name(&self, alloc: Global, key: u32) -> Result<String, AllocError> {
+        name_in(alloc, self.reader.keys(), key)
+    }
+
+    fn value_name(&self, alloc: Global, value: u32) -> Result<String, AllocError> {
+        name_in(alloc, self.reader.values(), value)
+    }
+
+    fn note(
+        &self,
+        alloc: Global,
+        place: u32,
+        is_end: bool,
+    ) -> Result<Option<CallNote>, AllocError> {
+        match self.reader.note(alloc, place, is_end)? {
+            Some(Note { line, text }) => Ok(Some(CallNote { line, text })),
+            None => Ok(None),
+        }
+    }
+
+    fn left_out(&self) -> &[(u32, u32)] {
+        self.left_out.as_slice()
+    }
+}

@@ -1,0 +1,49 @@
+//! One turn of judging a log while it is read: to the next cut, and the line on it.
+
+ghost use Rattle.std.specs.Prelude.{◌≡◌, ◌≢◌, ◌⊎◌, IfErr, IfOk};
+ghost use Rattle.std.specs.Io.KnownBytes.{Appends};
+ghost use Rattle.app_engine.specs.Expecting.{outcome_for};
+ghost use Rattle.app_logs.specs.Reports.{IsReportOn, cut_line};
+ghost use Rattle.app_logs.specs.Steps.Watching.{WritesCut};
+
+use crate::failure::LogError;
+use crate::judging::report_on_log;
+use app_command_line::Expected;
+use app_engine::{Findings, SessionWork, joined_text, outcome_of, write_output};
+use json_lines::Outcome;
+use log_events::EventLog;
+use std::alloc::{AllocError, Global};
+use std::io::Write;
+
+/// Judges the log so far, and writes the line on it.
+pub(crate) fn write_cut<K: SessionWork, W: Write>(
+    work: &K,
+    alloc: Global,
+    writer: &mut W,
+    log: &EventLog,
+    expected: Expected,
+) -> Result<Outcome, LogError>
+    requires { K.can_work work.now }
+    ensures written { IfOk result (WritesCut expected log.now (W.contents writer.old) (W.contents writer.new)) }
+    ensures error { IfErr result (λ e. e ≢ LogError.WriteFault → writer.new ≡ writer.old) }
+    ensures refused { IfErr result (λ e. (e ≡ LogError.Memory) ⊎ (e ≡ LogError.WriteFault)) }
+{
+    let report = report_on_log(work, alloc, log)?;
+    let line = line_of_cut(alloc, log.events(), &report);
+    let outcome = outcome_of(&report, expected);
+    drop(report);
+    let line = line?;
+    write_output(writer, line.as_slice())?;
+    Ok(outcome)
+}
+
+// The number of events, and the joined lines of a report.
+fn line_of_cut(alloc: Global, events: u32, report: &Findings) -> Result<Vec<u8>, AllocError>
+    ensures { IfOk result (λ line. line.items ≡ cut_line events report.now) }
+{
+    let count = format!(in alloc; "{events} ")?;
+    let joined = joined_text(alloc, report)?;
+    let mut line = count.into_bytes();
+    line.extend_from_slice(joined.as_slice())?;
+    Ok(line)
+}

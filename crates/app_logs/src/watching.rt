@@ -1,0 +1,159 @@
+//! Judging a log while it is read.
+
+ghost use Rattle.std.specs.Prelude.{◌≡◌, ◌≢◌, ◌⊎◌, ◌*◌, ◌+◌, ◌<◌, ◌≤◌, ℕ, List, [], Option, IfErr, IfOk, IfSome, None, false};
+ghost use Rattle.log_reader.specs.Readings.{HasRead, Reading};
+ghost use Rattle.app_logs.specs.LogAnswers.{IsLogError, WatchesLog, WritesFirstCuts};
+ghost use Rattle.app_logs.specs.Steps.Watching.{HasWatched, IsTurn, WritesLast};
+
+use crate::failure::LogError;
+use crate::following::Followed;
+use crate::telling::tell;
+use crate::turn::write_cut;
+use app_command_line::Expected;
+use app_engine::SessionWork;
+use json_lines::{Outcome, Source};
+use log_events::{EventLog, MAX_EVENTS};
+use log_reader::{EventReader, Progress};
+use std::alloc::Global;
+use std::io::Write;
+
+/// How a log is judged while it is read, and by whom.
+#[derive(Drop)]
+pub(crate) struct Watch<'a, K> {
+    pub work: &'a K,
+    pub alloc: Global,
+    pub expected: Expected,
+    pub every: u32,
+}
+
+/// Judges a log after each so many events and at its end, and writes a line on each of these cuts before it reads on. It ends early at
+/// the first cut whose outcome is not the expected one.
+///
+/// Each cut is judged whole. Lines that were written before an error stay written. What is said of a line that is refused is appended.
+pub(crate) fn watch_log<K: SessionWork, R: Source, W: Write>(
+    watch: &Watch<'_, K>,
+    source: &mut R,
+    writer: &mut W,
+    told: &mut String,
+) -> Result<Followed, LogError>
+    requires { K.can_work watch.now.work.now }
+    ensures watched { IfOk result (WatchesLog watch.now.every watch.now.expected (R.remaining source.old) (R.remaining source.new)
+        (W.contents writer.old) (W.contents writer.new)) }
+    ensures error { IfErr result (IsLogError (R.remaining source.old)) }
+    ensures first_cuts { IfErr result (λ e. e ≢ LogError.WriteFault → WritesFirstCuts watch.now.every watch.now.expected
+        (R.remaining source.old) (W.contents writer.old) (W.contents writer.new)) }
+{
+    let mut reader = EventReader::new(watch.alloc)?;
+    let followed = watch_from(watch, &mut reader, source, writer);
+    tell(watch.alloc, &reader, &followed, told);
+    drop(reader);
+    followed
+}
+
+// The same with a reader of logs that has read nothing.
+fn watch_from<K: SessionWork, R: Source, W: Write>(
+    watch: &Watch<'_, K>,
+    reader: &mut EventReader,
+    source: &mut R,
+    writer: &mut W,
+) -> Result<Followed, LogError>
+    requires can_work { K.can_work watch.now.work.now }
+    requires unread { HasRead [] reader.old }
+    ensures watched { IfOk result (WatchesLog watch.now.every watch.now.expected (R.remaining source.old) (R.remaining source.new)
+        (W.contents writer.old) (W.contents writer.new)) }
+    ensures error { IfErr result (IsLogError (R.remaining source.old)) }
+    ensures first_cuts { IfErr result (λ e. e ≢ LogError.WriteFault → WritesFirstCuts watch.now.every watch.now.expected
+        (R.remaining source.old) (W.contents writer.old) (W.contents writer.new)) }
+{
+    'cuts: for _ in 0..=MAX_EVENTS {
+        if let Some(followed) = watch.turn(reader, source, writer)? {
+            return Ok(followed);
+        }
+    }
+    Err(LogError::Memory)
+}
+
+// How many events come before the next cut. There is no next cut if no event comes between two cuts.
+fn next_cut(judged: u32, every: u32) -> Result<u32, LogError>
+    ensures next { IfOk result (λ events. events ≡ judged + every) }
+    ensures error { IfErr result (λ e. e ≡ LogError.Memory) }
+{
+    if every == 0 {
+        return Err(LogError::Memory);
+    }
+    judged.checked_add(every).ok_or(LogError::Memory)
+}
+
+impl<K: SessionWork> Watch<'_, K> {
+    // Reads on to the next cut, and writes the line on it. Returns the outcome for the log if that cut is the last one.
+    fn turn<R: Source, W: Write>(
+        &self,
+        reader: &mut EventReader,
+        source: &mut R,
+        writer: &mut W,
+    ) -> Result<Option<Followed>, LogError>
+        requires { K.can_work self.now.work.now }
+        ensures turn { (first written : Option (List ℕ)) (count : ℕ)
+            → HasWatched self.now.every self.now.expected first (R.remaining source.old) written (W.contents writer.old) reader.old count
+            → IfOk result (IsTurn self.now.every self.now.expected first (R.remaining source.new) written (W.contents writer.new)
+            reader.new count) }
+        ensures error { (first written : Option (List ℕ)) (count : ℕ)
+            → HasWatched self.now.every self.now.expected first (R.remaining source.old) written (W.contents writer.old) reader.old count
+            → IfErr result (IsLogError first) }
+        ensures first_cuts { (first written : Option (List ℕ)) (count : ℕ)
+            → HasWatched self.now.every self.now.expected first (R.remaining source.old) written (W.contents writer.old) reader.old count
+            → IfErr result (λ e. e ≢ LogError.WriteFault
+            → WritesFirstCuts self.now.every self.now.expected first written (W.contents writer.new)) }
+    {
+        let judged = reader.log().events();
+        let wanted = next_cut(judged, self.every)?;
+        match reader.read(source, wanted)? {
+            Progress::More => {
+                let outcome = write_cut(
+                    self.work,
+                    self.alloc,
+                    writer,
+                    reader.log(),
+                    self.expected,
+                )?;
+                Ok(stopped(outcome))
+            }
+            Progress::End { torn } => {
+                let outcome = self.write_last(writer, reader.log(), judged)?;
+                Ok(Some(Followed { outcome, torn }))
+            }
+        }
+    }
+
+    // Writes the line on a whole log, unless `judged` is not 0 and all its events were judged before.
+    fn write_last<W: Write>(
+        &self,
+        writer: &mut W,
+        log: &EventLog,
+        judged: u32,
+    ) -> Result<Outcome, LogError>
+        requires { K.can_work self.now.work.now }
+        ensures written { IfOk result (WritesLast self.now.expected log.now judged (W.contents writer.old) (W.contents writer.new)) }
+        ensures error { IfErr result (λ e. (e ≡ LogError.Memory) ⊎ (e ≡ LogError.WriteFault)) }
+        ensures unwritten { IfErr result (λ e. e ≢ LogError.WriteFault → writer.new ≡ writer.old) }
+    {
+        if judged > 0 && log.events() == judged {
+            return Ok(Outcome::Met);
+        }
+        write_cut(self.work, self.alloc, writer, log, self.expected)
+    }
+}
+
+// The outcome for a log whose reading ends at a cut because the outcome there was not the expected one.
+fn stopped(outcome: Outcome) -> Option<Followed>
+    ensures some { IfSome result (λ followed. (followed ≡ record { outcome = outcome; torn = false }) × (outcome ≢ Outcome.Met)) }
+    ensures none { result ≡ None → outcome ≡ Outcome.Met }
+{
+    match outcome {
+        Outcome::Met => None,
+        _ => Some(Followed {
+            outcome,
+            torn: false,
+        }),
+    }
+}

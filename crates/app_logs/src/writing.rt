@@ -1,0 +1,52 @@
+//! Writing what a log has: its history, or its names.
+
+ghost use Rattle.std.specs.Prelude.{◌≡◌, ◌++◌, IfErr, IfOk, codes, string_bytes};
+ghost use Rattle.serde_json.specs.Written.{compact_text};
+ghost use Rattle.json_histories.specs.AnyForm.{form_of};
+ghost use Rattle.app_logs.specs.Reports.{any_history_of};
+
+use judge_writer::write_long;
+use log_reader::{EventReader, Names};
+use std::alloc::{AllocError, Global};
+
+/// The history of a log, in the form that `judge` reads, and a line feed.
+///
+/// Fails for want of memory alone. O(n log n) for n calls.
+pub(crate) fn history_text(alloc: Global, reader: EventReader) -> Result<String, AllocError>
+    ensures { IfOk result (λ text. string_bytes text ≡ compact_text (form_of (any_history_of reader.log.events)) ++ codes "\n") }
+{
+    let history = reader.into_log().history(alloc)?;
+    let mut text = write_long(alloc, &history)?;
+    text.push_str("\n")?;
+    Ok(text)
+}
+
+/// The names of a log as JSON: the list of the clients, that of the keys and that of the values, each in the order of its numbers.
+///
+/// Fails for want of memory alone. O(n) for n bytes of names.
+pub(crate) fn names_text(alloc: Global, reader: &EventReader) -> Result<String, AllocError> {
+    let mut text = String::from_str(alloc, "[")?;
+    push_names(alloc, &mut text, reader.clients())?;
+    text.push_str(",")?;
+    push_names(alloc, &mut text, reader.keys())?;
+    text.push_str(",")?;
+    push_names(alloc, &mut text, reader.values())?;
+    text.push_str("]\n")?;
+    Ok(text)
+}
+
+// Appends a list of names to a text.
+fn push_names(alloc: Global, text: &mut String, names: &Names) -> Result<(), AllocError> {
+    text.push_str("[")?;
+    'names: for place in 0..names.len() {
+        let Ok(number) = u32::try_from(place) else {
+            return Err(AllocError);
+        };
+        if number > 0 {
+            text.push_str(",")?;
+        }
+        let name = names.text(alloc, number)?;
+        text.push_str(&name)?;
+    }
+    text.push_str("]")
+}

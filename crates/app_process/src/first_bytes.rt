@@ -1,0 +1,88 @@
+//! The form of an input, as far as its first bytes show it.
+
+use app_command_line::Sight;
+use std::alloc::Global;
+use std::io;
+use std::io::Read;
+
+// How many bytes of an input are looked at, and by how many read calls.
+const MOST_BYTES: usize = 4096;
+
+const MOST_CALLS: usize = 65_536;
+
+const CHUNK_BYTES: usize = 512;
+
+/// The first bytes of an input, and what they show of its form.
+#[derive(Drop)]
+pub(crate) struct FirstBytes {
+    /// The bytes.
+    pub bytes: Vec<u8>,
+    /// What they show.
+    pub sight: Sight,
+}
+
+/// Reads as far as the first text of an input, which tells logs from histories, and gives the bytes that were read.
+///
+/// Where there is none within some first bytes, the form is [`Sight::Other`]. It fails where a read call does, or for want of memory.
+pub(crate) fn look<R: Read>(alloc: Global, reader: &mut R) -> io::Result<FirstBytes> {
+    let mut bytes = Vec::new(alloc);
+    let mut chunk = [0u8; CHUNK_BYTES];
+    for _ in 0..MOST_CALLS {
+        match reader.read(&mut chunk) {
+            Ok(0) => break,
+            Ok(count) => bytes.extend_from_slice(&chunk[..count])?,
+            Err(error) if error.kind() == io::ErrorKind::Interrupted => {}
+            Err(error) => return Err(error),
+        }
+        if let Some(sight) = sight_of(bytes.as_slice()) {
+            return Ok(FirstBytes { bytes, sight });
+        }
+        if bytes.len() > MOST_BYTES {
+            break;
+        }
+    }
+    Ok(FirstBytes {
+        bytes,
+        sight: Sight::Other,
+    })
+}
+
+// What some first bytes show; none where they have no whole text yet.
+fn sight_of(bytes: &[u8]) -> Option<Sight> {
+    for (place, byte) in bytes.iter().enumerate() {
+        match byte {
+            b'[' | b' ' | b'\t' | b'\r' | b'\n' => {}
+            b'"' => return sight_by(&bytes[place + 1..]),
+            _ => return Some(Sight::Other),
+        }
+    }
+    None
+}
+
+// The texts that tell a form, with the quote after each.
+const TEXTS: [(&[u8], Sight); 7] = [
+    (b"start\"", Sight::Log),
+    (b"begin\"", Sight::Log),
+    (b"end\"", Sight::Log),
+    (b"fail\"", Sight::Log),
+    (b"lost\"", Sight::Log),
+    (b"order\"", Sight::Log),
+    (b"memory\"", Sight::Memory),
+];
+
+// How many bytes the longest of them has.
+const LONGEST_TEXT: usize = 7;
+
+// What the first text shows, where these bytes begin with it; none where they may still become one of those that tell a form.
+fn sight_by(text: &[u8]) -> Option<Sight> {
+    for (known, sight) in TEXTS {
+        if text.starts_with(known) {
+            return Some(sight);
+        }
+    }
+    if text.len() < LONGEST_TEXT {
+        None
+    } else {
+        Some(Sight::Other)
+    }
+}

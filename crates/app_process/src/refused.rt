@@ -1,0 +1,75 @@
+//! What is said of an input that is refused.
+
+use app_command_line::{Length, Order};
+use app_engine::RunError;
+use json_histories::ReadError;
+use live_script::ScriptError;
+use show_refusals::{InputForm, Refusal, reason_for};
+use std::alloc::{AllocError, Global};
+
+/// What is wrong with an input of this form, where, and what is wanted; nothing if the run failed for another reason.
+pub(crate) fn reason_of(
+    alloc: Global,
+    input: Option<&[u8]>,
+    form: InputForm,
+    error: &RunError,
+) -> Result<Option<String>, AllocError> {
+    match refusal_of(form, error) {
+        Some(refusal) => Ok(Some(reason_for(alloc, input, form, refusal)?)),
+        None => Ok(None),
+    }
+}
+
+/// What the input of an order is to be.
+pub(crate) fn form_of(order: &Order) -> InputForm {
+    match order {
+        Order::Judge(judging) => history_form(judging.length),
+        Order::ExplainLong(_) => InputForm::LongHistory,
+        Order::ListFaults(listing) => history_form(listing.length),
+        Order::JudgeLines(_) | Order::Explain(_) | Order::Drive(_) => InputForm::History,
+        Order::Check(_) => InputForm::Certified,
+        Order::Refute(Length::Limited) => InputForm::Claim,
+        Order::Refute(Length::Any) => InputForm::LongClaim,
+        Order::Replay => InputForm::Script,
+    }
+}
+
+/// What a history of this length is to be.
+pub(crate) fn history_form(length: Length) -> InputForm {
+    match length {
+        Length::Limited => InputForm::History,
+        Length::Any => InputForm::LongHistory,
+    }
+}
+
+// Why the input of this form was refused, where that is why a run failed.
+fn refusal_of(form: InputForm, error: &RunError) -> Option<Refusal> {
+    match error {
+        RunError::History(refused) => Some(Refusal::Read(*refused)),
+        RunError::Script(refused) => refusal_of_script(refused),
+        RunError::BadCertificate => Some(Refusal::BadCertificate),
+        RunError::ShapeMismatch => Some(Refusal::ShapeMismatch),
+        RunError::NotThatPattern => Some(Refusal::NotThatPattern),
+        RunError::BadLimits => Some(Refusal::NoSession),
+        RunError::NoSuch => Some(Refusal::NoSuchSession),
+        RunError::TooLong => match form {
+            InputForm::LongHistory | InputForm::LongClaim => Some(Refusal::OverLong),
+            _ => Some(Refusal::TooLong),
+        },
+        RunError::Memory | RunError::ReadFault | RunError::WriteFault => None,
+    }
+}
+
+// Why a script was refused, where it was.
+fn refusal_of_script(error: &ScriptError) -> Option<Refusal> {
+    match error {
+        ScriptError::NotJson => Some(Refusal::Read(ReadError::NotJson)),
+        ScriptError::BadShape => Some(Refusal::Read(ReadError::BadShape)),
+        ScriptError::UnknownObject => Some(Refusal::Read(ReadError::UnknownObject)),
+        ScriptError::BadInitial => Some(Refusal::Read(ReadError::BadInitial)),
+        ScriptError::BadLimits => Some(Refusal::BadSessions),
+        ScriptError::BadStep(place) => Some(Refusal::BadStep(*place)),
+        ScriptError::TooManySteps => Some(Refusal::TooManySteps),
+        ScriptError::Memory => None,
+    }
+}

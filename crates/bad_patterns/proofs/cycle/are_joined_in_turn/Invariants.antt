@@ -1,7 +1,0 @@
-use Rattle.bad_patterns.specs.Paths.{AreJoined}
-use Rattle.bad_patterns.proofs.Neighbours.{AreRelatedUpTo}
-use Rattle.bad_patterns.proofs.cycle.are_joined_in_turn.Given as goal
-
--- each link so far is joined to the next
-abbrev pub invariant-loop-i : goal.invariant-loop-i
-invariant-loop-i l = AreRelatedUpTo AreJoined l.links l.i

@@ -1,6 +1,0 @@
-use Rattle.bad_patterns.specs.Derivations.{GivePairs}
-use Rattle.bad_patterns.proofs.derived_pairs.derived_pair.Given as goal
-
--- the lines so far give these pairs
-abbrev pub invariant-loop-line : goal.invariant-loop-line
-invariant-loop-line g l = GivePairs (g.M.KnownMemory.history l.h) l.op l.lines l.line-index l.pairs.items

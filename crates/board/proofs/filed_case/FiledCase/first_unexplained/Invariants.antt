@@ -1,8 +1,0 @@
-use Rattle.std.proofs.Common.{◌<◌}
-use Rattle.history.specs.declared.op_id.OpId.{OpId}
-use Rattle.board.specs.Events.{IsRow, IsExplained}
-use Rattle.board.proofs.filed_case.FiledCase.first_unexplained.Given as goal
-
--- the operations of the sessions so far are explained
-abbrev pub invariant-loop-session : goal.invariant-loop-session
-invariant-loop-session g l = (o : OpId) → o.session < l.session → IsRow l.self o → IsExplained l.self o

@@ -1,8 +1,0 @@
-use Rattle.std.proofs.Common.{◌<◌, ◌≤◌, ◌+◌, ℕ}
-use Rattle.causal_order.specs.Orders.{op}
-use Rattle.causal_order.specs.Vectors.{count}
-use Rattle.causal_order.proofs.limits.limit_of.Given as goal
-
--- no operation so far waits for a later one of the session
-abbrev pub invariant-loop-index : goal.invariant-loop-index
-invariant-loop-index l = (i : ℕ) → i < l.index → count l.waits (op l.session i) l.session ≤ i + 1

@@ -1,6 +1,0 @@
-use Rattle.causal_order.specs.Steps.Waiting.{AreOfOthers}
-use Rattle.causal_order.proofs.waiting_cycle.place_of_session.Given as goal
-
--- none of the operations so far is of the session
-abbrev pub invariant-loop-place : goal.invariant-loop-place
-invariant-loop-place l = AreOfOthers l.ops l.place l.session

@@ -1,0 +1,30 @@
+use Rattle.std.proofs.Common.{◌≡◌, arith, length, refl, Ok}
+use Rattle.cert_make.specs.ByAdvice.{IsToldSchedule}
+use Rattle.order_causal.proofs.GatheredLaws.{made-each, made-push, made-shape}
+use Rattle.cert_make.proofs.by_advice.reported_schedules.Goals as goal
+
+pub loop-session-init : goal.loop-session-init
+loop-session-init g c = rw c.new-schedules.ensures (record { sessions = refl; each = λ s below. absurd (omega arith) })
+
+pub reported_schedules_of-requires-clause-few : goal.reported_schedules_of-requires-clause-few
+reported_schedules_of-requires-clause-few g c = λ _ _. let count = c.sessions-session-end.ensures.count in let few = c.sessions-session-end.ensures.few in omega arith
+
+pub reported_schedules_of-requires-clause-exists : goal.reported_schedules_of-requires-clause-exists
+reported_schedules_of-requires-clause-exists g c = λ _ _. let count = c.sessions-session-end.ensures.count in let below = c.loop-session-test.true in omega arith
+
+pub loop-session-preserved : goal.loop-session-preserved
+loop-session-preserved g c =
+    rw c.in_ok-push_rows.ensures.ok
+    (made-push _ c.loop-session.session c.loop-session.schedules c.in_ok-reported_schedules_of.field-0 c.loop-session.invariant c.in_ok-reported_schedules_of.ensures)
+
+pub returns-clause-exact : goal.returns-clause-exact
+returns-clause-exact g c =
+    let ended : c.loop-session.session ≡ length c.args.h.now.1 = let all = c.sessions-session-end.ensures.count in omega arith in
+    made-each c.args.h.now (IsToldSchedule g.O.SeqObject.query c.args.h.now c.args.advice.now c.args.vectors.now c.args.ops.now) _ c.loop-session.session ended (Ok c.loop-session.schedules) c.loop-session.invariant
+    (λ s lists below own. own)
+
+pub returns-clause-shape : goal.returns-clause-shape
+returns-clause-shape g c =
+    let ended : c.loop-session.session ≡ length c.args.h.now.1 = let all = c.sessions-session-end.ensures.count in omega arith in
+    made-shape c.args.h.now (IsToldSchedule g.O.SeqObject.query c.args.h.now c.args.advice.now c.args.vectors.now c.args.ops.now) _ c.loop-session.session ended (Ok c.loop-session.schedules) c.loop-session.invariant
+    (λ s lists below own. own)

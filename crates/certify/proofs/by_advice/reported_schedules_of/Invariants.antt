@@ -1,7 +1,0 @@
-use Rattle.causal_order.specs.Steps.Gathered.{AreListsUpTo}
-use Rattle.certify.specs.ByAdvice.{IsToldSchedule}
-use Rattle.certify.proofs.by_advice.reported_schedules_of.Given as goal
-
--- the operations so far have their schedules
-abbrev pub invariant-loop-index : goal.invariant-loop-index
-invariant-loop-index g l = AreListsUpTo (IsToldSchedule g.O.SeqObject.query l.h l.advice l.vectors l.ops) l.session l.index l.schedules

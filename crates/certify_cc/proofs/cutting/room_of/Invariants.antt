@@ -1,7 +1,0 @@
-use Rattle.std.proofs.Common.{◌≤◌, ◌*◌}
-use Rattle.causal_order.proofs.Walked.{room}
-use Rattle.certify_cc.proofs.cutting.room_of.Given as goal
-
--- the sum so far is at least the room that the limits so far leave
-abbrev pub invariant-loop-session : goal.invariant-loop-session
-invariant-loop-session l = (room l.session l.limits l.walk ≤ l.room) × (l.room ≤ l.session * 65536)

@@ -1,7 +1,0 @@
-use Rattle.std.proofs.Common.{◌≡◌, length}
-use Rattle.certify_cc.specs.Steps.Cuts.{ArePlaces}
-use Rattle.certify_cc.proofs.whole_walk.places_of.Given as goal
-
--- the sessions so far have their places
-abbrev pub invariant-loop-session : goal.invariant-loop-session
-invariant-loop-session l = (length l.places ≡ l.session) × ArePlaces l.schedule l.places

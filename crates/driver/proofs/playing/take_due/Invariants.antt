@@ -1,5 +1,0 @@
-use Rattle.driver.specs.Clients.{AreSealsOf}
-use Rattle.driver.proofs.playing.take_due.Given as goal
-
-abbrev pub invariant-loop-number : goal.invariant-loop-number
-invariant-loop-number g l = AreSealsOf l.run.lanes.now l.seals.items

@@ -1,5 +1,0 @@
-use Rattle.engine.proofs.Outcomes.{refused_in_one_way}
-use Rattle.engine.proofs.laws.input_is_refused_in_one_way.Goals as goal
-
-pub returns : goal.returns
-returns c = refused_in_one_way

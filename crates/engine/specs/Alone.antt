@@ -1,8 +1,0 @@
--- How the calling thread alone judges a history.
-use Rattle.command_line.specs.declared.judging.Judging.{Judging}
-use Rattle.command_line.specs.declared.length.Length.TheVariants.{Limited}
-use Rattle.command_line.specs.Expected.{expecting_nothing}
-
--- as one worker does, and nothing is expected of the history
-abbrev pub judging_alone : Judging
-judging_alone = record { workers = 1; expected = expecting_nothing; length = Limited }

@@ -1,6 +1,0 @@
-use Rattle.event_log.specs.Steps.Chains.{AreChainsFrom}
-use Rattle.event_log.proofs.chains.chains_of.Given as goal
-
--- the calls from here on are linked
-abbrev pub invariant-loop-number : goal.invariant-loop-number
-invariant-loop-number l = AreChainsFrom l.calls l.clients l.first.items l.next.items l.number

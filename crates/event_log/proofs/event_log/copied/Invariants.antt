@@ -1,6 +1,0 @@
-use Rattle.std.proofs.Common.{◌≡◌, take}
-use Rattle.event_log.proofs.event_log.copied.Given as goal
-
--- the entries so far are copied
-abbrev pub invariant-loop-key : goal.invariant-loop-key
-invariant-loop-key l = l.copy ≡ take l.key-index l.key-items

@@ -1,5 +1,0 @@
-use Rattle.events.proofs.CutCriteria.{cut-meets}
-use Rattle.events.proofs.laws.cuts_meet_what_the_log_meets.Goals as goal
-
-pub returns : goal.returns
-returns c es n allowed well starts begun distinct = cut-meets es n allowed well starts begun distinct

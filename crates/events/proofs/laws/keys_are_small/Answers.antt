@@ -1,5 +1,0 @@
-use Rattle.events.proofs.HistoryKeys.{keys-small}
-use Rattle.events.proofs.laws.keys_are_small.Goals as goal
-
-pub returns : goal.returns
-returns c = keys-small

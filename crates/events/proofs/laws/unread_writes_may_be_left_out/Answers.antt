@@ -1,9 +1,0 @@
-use Rattle.std.specs.Prelude.{None}
-use Rattle.events.specs.Histories.{write}
-use Rattle.events.proofs.ForksInserted.{last-inserted}
-use Rattle.events.proofs.UnreadOperations.{unread-left_out}
-use Rattle.events.proofs.laws.unread_writes_may_be_left_out.Goals as goal
-
-pub returns : goal.returns
-returns c h whole s i x v end more unread criterion =
-    (last-inserted h whole s i x v end more criterion, unread-left_out h whole s i (write x v None) more unread criterion)

@@ -1,8 +1,0 @@
-use Rattle.std.proofs.Common.{string_bytes}
-use Rattle.explanations.proofs.Indented.{one_line_more}
-use Rattle.explanations.proofs.finding_text.push_indented.Goals as goal
-
-pub returns-in_ok-push_line : goal.returns-in_ok-push_line
-returns-in_ok-push_line c lines =
-    one_line_more (string_bytes c.args.text.now) c.args.line.now (string_bytes c.push_line.new.text) c.in_ok-push_line.ensures lines
-    (c.is_one_line.ensures.0 c.if-is_one_line.true)

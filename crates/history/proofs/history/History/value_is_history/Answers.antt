@@ -1,4 +1,0 @@
-use Rattle.history.proofs.history.History.value_is_history.Goals as goal
-
-pub returns : goal.returns
-returns g c = rw (← c.self.view_is) c.self.invariant

@@ -1,0 +1,7 @@
+pub mod LineHandlers
+pub mod Outcomes
+pub mod ReadCalls
+pub mod Lines
+pub mod Steps
+pub mod LineParts
+pub mod LineReaders

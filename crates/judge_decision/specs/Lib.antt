@@ -1,0 +1,3 @@
+pub mod LongDecisions
+pub mod Steps
+pub mod Decisions

@@ -1,0 +1,13 @@
+pub mod Numbers
+pub mod Steps
+pub mod IndexedLaws
+pub mod KeyPlaces
+pub mod ListsLaws
+pub mod PartsLaws
+pub mod Listing
+pub mod Orders
+pub mod Passing
+pub mod Placings
+pub mod RoundSteps
+pub mod RunSteps
+pub mod Stuck

@@ -1,0 +1,10 @@
+pub mod Kept
+pub mod LongHistories
+pub mod Steps
+pub mod Indexed
+pub mod Lists
+pub mod Parts
+pub mod Writes
+pub mod Edges
+pub mod Placements
+pub mod Sessions

@@ -1,5 +1,0 @@
-use Rattle.line_workers.proofs.FiledLaws.{first-none}
-use Rattle.line_workers.proofs.running.answer_lines.Goals as goal
-
-pub returns-in-Err-clause-faulted : goal.returns-in-Err-clause-faulted
-returns-in-Err-clause-faulted g c = λ other. first-none (g.C.Clerk.says c.args.clerk.now) (g.R.Source.remaining c.args.reader) (g.W.Write.contents c.args.writer)

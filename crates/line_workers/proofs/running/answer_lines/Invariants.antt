@@ -1,9 +1,0 @@
-use Rattle.line_workers.proofs.running.answer_lines.Given as goal
-
-abbrev pub ghosts-answer_as : goal.ghosts-answer_as
-ghosts-answer_as g a = record {
-  says = g.C.Clerk.says a.clerk.now;
-  input = g.R.Source.remaining a.reader;
-  before = g.W.Write.contents a.writer;
-  most = g.C.Clerk.most a.clerk.now;
-}

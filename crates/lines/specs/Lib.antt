@@ -1,7 +1,0 @@
-pub mod Clerks
-pub mod Outcomes
-pub mod ReadCalls
-pub mod Lines
-pub mod Steps
-pub mod LineParts
-pub mod LineReaders

@@ -1,0 +1,11 @@
+pub mod Events
+pub mod Histories
+pub mod Cuts
+pub mod Insertions
+pub mod Shapes
+pub mod Values
+pub mod Pending
+pub mod Origins
+pub mod LeftOut
+pub mod Kept
+pub mod Steps

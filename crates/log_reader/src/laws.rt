@@ -1,0 +1,33 @@
+//! Laws of texts and their logs. The functions do nothing: what they ensure is the law.
+
+ghost use Rattle.std.specs.Prelude.{◌≡◌, ℕ, Bool, List, [], ◌∷◌, Some, codes};
+ghost use Rattle.serde_json.specs.Data.{Data, string};
+ghost use Rattle.log_reader.specs.Forms.{said_in};
+ghost use Rattle.log_reader.specs.Logs.{IsLogOf, IsRefusedLog, Log};
+ghost use Rattle.log_reader.specs.NameLaw.{FitsWord};
+ghost use Rattle.log_reader.specs.Names.{Name, value_name};
+ghost use Rattle.log_reader.specs.declared.refusal.Refusal.{Refusal as AnyRefusal};
+
+/// A text has one log, or one refusal, and not both.
+pub fn texts_have_one_log()
+    ensures log { (text : List ℕ) (a b : Log) (t u : Bool) → IsLogOf text a t → IsLogOf text b u → (a ≡ b) × (t ≡ u) }
+    ensures refusal { (text : List ℕ) (r s : AnyRefusal) → IsRefusedLog text r → IsRefusedLog text s → r ≡ s }
+    ensures either { (text : List ℕ) (log : Log) (torn : Bool) (r : AnyRefusal) → IsLogOf text log torn → ¬ IsRefusedLog text r }
+{}
+
+/// Two JSON values with one name are the same, where their numbers fit 64 bits.
+pub fn names_tell_values()
+    ensures { (d e : Data) (name : Name) → FitsWord d → FitsWord e → value_name d ≡ Some name → value_name e ≡ Some name → d ≡ e }
+{}
+
+/// An event with a note is the event without it.
+pub fn notes_say_nothing()
+    ensures begin { (client call note : Data)
+        → said_in (string (codes "begin") ∷ client ∷ call ∷ note ∷ []) ≡ said_in (string (codes "begin") ∷ client ∷ call ∷ []) }
+    ensures end { (client answer note : Data)
+        → said_in (string (codes "end") ∷ client ∷ answer ∷ note ∷ []) ≡ said_in (string (codes "end") ∷ client ∷ answer ∷ []) }
+    ensures fail { (client note : Data)
+        → said_in (string (codes "fail") ∷ client ∷ note ∷ []) ≡ said_in (string (codes "fail") ∷ client ∷ []) }
+    ensures lost { (client note : Data)
+        → said_in (string (codes "lost") ∷ client ∷ note ∷ []) ≡ said_in (string (codes "lost") ∷ client ∷ []) }
+{}

@@ -1,5 +1,0 @@
-use Rattle.long_columns.specs.Forks.{AreNoWrites}
-use Rattle.long_columns.proofs.shares.first_write.Given as goal
-
-abbrev pub invariant-loop-operation : goal.invariant-loop-operation
-invariant-loop-operation l = AreNoWrites l.index.history l.from l.operation

@@ -1,5 +1,0 @@
-use Rattle.long_columns.proofs.Bits.{and-not}
-use Rattle.long_columns.proofs.words.without.Goals as goal
-
-pub returns : goal.returns
-returns c k = and-not c.args.a c.args.b k c.ranges.b.fits

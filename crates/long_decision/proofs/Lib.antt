@@ -1,6 +1,0 @@
-pub mod Completeness
-pub mod Consistent
-pub mod ExplainingLists
-pub mod Firsts
-pub mod Orders
-pub mod ThinAir

@@ -1,2 +1,0 @@
-pub mod LongDecisions
-pub mod Steps

@@ -1,5 +1,0 @@
-use Rattle.std.specs.Prelude.{[]}
-use Rattle.long_faults.proofs.counts.SessionFaults.of.Goals as goal
-
-pub returns-clause-counts : goal.returns-clause-counts
-returns-clause-counts c = c.add.ensures [] c.none-counts.ensures

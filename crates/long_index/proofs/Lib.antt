@@ -1,4 +1,0 @@
-pub mod IndexedLaws
-pub mod KeyPlaces
-pub mod ListsLaws
-pub mod PartsLaws

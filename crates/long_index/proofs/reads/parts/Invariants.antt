@@ -1,8 +1,0 @@
-use Rattle.history.specs.History.{many_before}
-use Rattle.long_index.specs.Lists.{ListsEach}
-use Rattle.long_index.specs.Parts.{IsPart}
-use Rattle.long_index.proofs.reads.parts.Given as goal
-
--- the operations of the sessions so far have their parts
-abbrev pub invariant-loop-session : goal.invariant-loop-session
-invariant-loop-session l = ListsEach l.h (IsPart l.h) (many_before l.h l.session) l.parts.items

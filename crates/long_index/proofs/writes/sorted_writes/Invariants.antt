@@ -1,7 +1,0 @@
-use Rattle.causal_order.specs.Orders.{op}
-use Rattle.memory_order.specs.Steps.Written.{ListsWritesBefore}
-use Rattle.long_index.proofs.writes.sorted_writes.Given as goal
-
--- the writes of the sessions so far are listed
-abbrev pub invariant-loop-session : goal.invariant-loop-session
-invariant-loop-session l = ListsWritesBefore l.h (op l.session 0) l.writes.items

@@ -1,4 +1,0 @@
-pub mod Indexed
-pub mod Lists
-pub mod Parts
-pub mod Writes

@@ -1,3 +1,0 @@
-pub mod Edges
-pub mod Placements
-pub mod Sessions

@@ -1,7 +1,0 @@
-use Rattle.memory_order.specs.Steps.Conflicts.{IsUpToWrite}
-use Rattle.memory_order.proofs.Conflicting.{AreRaisedBelow}
-use Rattle.memory_order.proofs.conflicts.add_past_writes.Given as goal
-
--- the counts of the sessions so far are raised
-abbrev pub invariant-loop-session : goal.invariant-loop-session
-invariant-loop-session l = AreRaisedBelow (IsUpToWrite l.order l.read.key l.read.op) l.source l.fn.waits l.session l.waits

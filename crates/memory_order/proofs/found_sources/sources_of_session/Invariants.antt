@@ -1,6 +1,0 @@
-use Rattle.memory_order.specs.Steps.Indexed.{ListsIfAnyBelow}
-use Rattle.memory_order.proofs.found_sources.sources_of_session.Given as goal
-
--- the sources so far are listed
-abbrev pub invariant-loop-index : goal.invariant-loop-index
-invariant-loop-index l = ListsIfAnyBelow l.h l.session l.index l.sources.items

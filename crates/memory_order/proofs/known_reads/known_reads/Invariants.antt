@@ -1,7 +1,0 @@
-use Rattle.causal_order.specs.Orders.{op}
-use Rattle.memory_order.specs.Steps.Indexed.{ListsReadsBefore}
-use Rattle.memory_order.proofs.known_reads.known_reads.Given as goal
-
--- the known reads of the sessions so far are listed
-abbrev pub invariant-loop-session : goal.invariant-loop-session
-invariant-loop-session l = ListsReadsBefore l.h (op l.session 0) l.reads.items

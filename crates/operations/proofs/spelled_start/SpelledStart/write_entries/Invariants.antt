@@ -1,8 +1,0 @@
-use Rattle.std.proofs.Common.{◌≡◌, map, take}
-use Rattle.serde_json.specs.View.{view}
-use Rattle.operations.specs.Spelling.{entry_form}
-use Rattle.operations.proofs.spelled_start.SpelledStart.write_entries.Given as goal
-
--- the entries so far are written
-abbrev pub invariant-loop-key : goal.invariant-loop-key
-invariant-loop-key g l = map view l.values.items ≡ map (entry_form g.Self.SpelledStart.start_form) (take l.key-index l.entries)

@@ -1,7 +1,0 @@
-use Rattle.std.proofs.Common.{◌≡◌, ◌++◌, take}
-use Rattle.page.specs.Pages.{escaped}
-use Rattle.page.proofs.escaping.push_escaped.Given as goal
-
--- the text so far
-abbrev pub invariant-loop-byte : goal.invariant-loop-byte
-invariant-loop-byte l = l.page.items ≡ l.initial.page.items ++ escaped l.within (take l.byte-index l.text)

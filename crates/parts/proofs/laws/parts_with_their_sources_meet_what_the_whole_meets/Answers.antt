@@ -1,5 +1,0 @@
-use Rattle.parts.proofs.SourceParts.{part_with_sources-meets}
-use Rattle.parts.proofs.laws.parts_with_their_sources_meet_what_the_whole_meets.Goals as goal
-
-pub returns : goal.returns
-returns c = λ h kept criterion distinct keeps. part_with_sources-meets h kept distinct keeps criterion

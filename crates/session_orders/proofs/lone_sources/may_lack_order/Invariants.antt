@@ -1,9 +1,0 @@
-use Rattle.std.specs.Prelude.{◌≡◌, ◌<◌}
-use Rattle.history.specs.declared.op_id.OpId.{OpId}
-use Rattle.history.specs.History.{IsOp, number}
-use Rattle.session_orders.specs.LoneSources.{IsLone}
-use Rattle.session_orders.proofs.lone_sources.may_lack_order.Given as goal
-
-abbrev pub invariant-loop-operation : goal.invariant-loop-operation
-invariant-loop-operation l =
-    (r : OpId) → IsOp l.index.history r → r.session ≡ l.session → number l.index.history r < l.operation → IsLone l.index.history r

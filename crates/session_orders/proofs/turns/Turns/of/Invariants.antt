@@ -1,5 +1,0 @@
-use Rattle.session_orders.specs.OnItsWay.{ListsSessions}
-use Rattle.session_orders.proofs.turns.Turns.of.Given as goal
-
-abbrev pub invariant-loop-session : goal.invariant-loop-session
-invariant-loop-session l = ListsSessions l.index.history l.session l.sessions.items

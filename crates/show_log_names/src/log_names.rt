@@ -1,0 +1,308 @@
+//! The names of a log, as texts on its history have them.
+
+use crate::log_tables::{LogTables, StoodFor};
+use crate::notes::with_notes;
+use crate::phrases::{
+    call_label, call_words, client_name, fork_label, fork_words, key_words, value_name,
+};
+use log_events::Ending;
+use model_history::OpId;
+use show_words::{Names, counted, listed, name_of};
+use std::alloc::{AllocError, Global};
+
+/// The most keys that are listed by name.
+const MAX_KEYS: usize = 8;
+
+/// The names that a log has, for the history that it represents.
+///
+/// An operation is named by the line on which its call begins. A lost write that was read is three operations: `line 160 (call)` is the
+/// write of its mark in the session of its client, `line 160 (later)` the read of the mark, and `line 160` the write itself.
+#[derive(Clone, Copy)]
+pub struct LogNames<'a, T: LogTables> {
+    pub tables: &'a T,
+}
+
+/// What a number of a value represents.
+enum Held {
+    /// The value of a log that has this number.
+    Value(u32),
+    /// A key that holds nothing, or no longer anything.
+    Nothing,
+    /// No value of the log: a mark.
+    Mark,
+}
+
+impl<'a, T: LogTables> LogNames<'a, T> {
+    // Whether the session of an operation is one of a lost write.
+    fn is_in_fork(&self, op: OpId) -> bool {
+        op.session >= self.tables.clients()
+    }
+
+    // The line on which the call of an operation begins.
+    fn line(&self, stood: StoodFor) -> u64 {
+        self.tables.line(stood.place)
+    }
+
+    // What the value of a variable represents.
+    fn held(&self, key: u32, value: u64) -> Held {
+        if is_mark(key) {
+            return Held::Mark;
+        }
+        if value % 2 == 0 {
+            return Held::Nothing;
+        }
+        match u32::try_from(value / 2) {
+            Ok(number) => Held::Value(number),
+            Err(_) => Held::Mark,
+        }
+    }
+}
+
+// Whether a variable is the mark of a lost write, and no key.
+fn is_mark(key: u32) -> bool {
+    key % 2 == 1
+}
+
+// Whether a value is that of a delete.
+fn is_deleted(value: u64) -> bool {
+    value % 2 == 0 && value > 0
+}
+
+impl<'a, T: LogTables> Names for LogNames<'a, T> {
+    fn in_whole(&self, op: OpId) -> OpId {
+        op
+    }
+
+    fn tells_more(&self) -> bool {
+        true
+    }
+
+    fn push_remarks(&self, alloc: Global, lines: &mut Vec<String>) -> Result<(), AllocError> {
+        let left_out = self.tables.left_out();
+        if left_out.is_empty() {
+            return Ok(());
+        }
+        let mut keys = Vec::new(alloc);
+        let mut reads: u64 = 0;
+        for (key, count) in left_out {
+            keys.push(*key)?;
+            reads = reads.saturating_add(u64::from(*count));
+        }
+        let named = listed_keys(alloc, self.tables, &keys)?;
+        lines.push(left_out_words(alloc, reads, keys.len(), &named)?)?;
+        Ok(())
+    }
+
+    fn place_words(&self) -> &'static str {
+        "In the log"
+    }
+
+    fn session_word(&self) -> &'static str {
+        "client"
+    }
+
+    fn sessions_words(&self, alloc: Global, count: usize) -> Result<String, AllocError> {
+        if count as u64 > self.tables.clients() {
+            format!(in alloc; "{count} clients and lost writes")
+        } else {
+            counted(alloc, count, "client")
+        }
+    }
+
+    fn goes_on(&self, from: OpId, to: OpId) -> bool {
+        let is_own = from.session == to.session && from.index < to.index;
+        is_own || (self.is_in_fork(to) && to.index == 0)
+    }
+
+    fn operation(&self, alloc: Global, op: OpId) -> Result<String, AllocError> {
+        let Some(stood) = self.tables.stood_for(op) else {
+            return name_of(alloc, op);
+        };
+        let line = self.line(stood);
+        if self.is_in_fork(op) {
+            if op.index == 0 {
+                return format!(in alloc; "line {line} (later)");
+            }
+        } else if stood.ending == Some(Ending::Lost) {
+            return format!(in alloc; "line {line} (call)");
+        }
+        format!(in alloc; "line {line}")
+    }
+
+    fn session(&self, alloc: Global, op: OpId) -> Result<String, AllocError> {
+        match self.tables.stood_for(op) {
+            Some(stood) if self.is_in_fork(op) => {
+                let line = self.line(stood);
+                format!(in alloc; "the lost write of line {line}")
+            }
+            Some(stood) => session_of_client(alloc, self.tables, stood.client),
+            None => session_of_number(alloc, self.tables, op.session),
+        }
+    }
+
+    fn phrase(&self, alloc: Global, op: OpId) -> Result<Option<String>, AllocError> {
+        match self.tables.stood_for(op) {
+            Some(stood) if self.is_in_fork(op) => {
+                Ok(Some(fork_words(alloc, self.tables, stood, op.index > 0)?))
+            }
+            Some(stood) => Ok(Some(noted_words(alloc, self.tables, stood)?)),
+            None => Ok(None),
+        }
+    }
+
+    fn label(&self, alloc: Global, op: OpId) -> Result<Option<String>, AllocError> {
+        match self.tables.stood_for(op) {
+            Some(stood) if self.is_in_fork(op) => {
+                Ok(Some(fork_label(alloc, self.tables, stood, op.index > 0)?))
+            }
+            Some(stood) => Ok(Some(call_label(alloc, self.tables, stood)?)),
+            None => Ok(None),
+        }
+    }
+
+    fn variable(&self, alloc: Global, key: u32) -> Result<String, AllocError> {
+        if is_mark(key) {
+            let line = self.tables.line(key / 2);
+            return format!(in alloc; "the mark of line {line}");
+        }
+        key_words(alloc, self.tables, key / 2)
+    }
+
+    fn variables(&self, alloc: Global, keys: &[u32]) -> Result<String, AllocError> {
+        let mut named = Vec::new(alloc);
+        for key in keys.iter().take(MAX_KEYS) {
+            named.push(self.variable(alloc, *key)?)?;
+        }
+        listed(alloc, &named, keys.len().saturating_sub(MAX_KEYS))
+    }
+
+    fn value(&self, alloc: Global, key: u32, value: u64) -> Result<String, AllocError> {
+        match self.held(key, value) {
+            Held::Value(number) => value_name(alloc, self.tables, number),
+            Held::Nothing => String::from_str(alloc, "nothing"),
+            Held::Mark => format!(in alloc; "{value}"),
+        }
+    }
+
+    fn initial_read_words(
+        &self,
+        alloc: Global,
+        key: u32,
+        value: u64,
+    ) -> Result<String, AllocError> {
+        let variable = self.variable(alloc, key)?;
+        match self.held(key, value) {
+            Held::Nothing => format!(in alloc; "found nothing at {variable}"),
+            Held::Value(_) | Held::Mark => {
+                let value = self.value(alloc, key, value)?;
+                format!(in alloc; "read {value}, the initial value of {variable}")
+            }
+        }
+    }
+
+    fn unwritten_read_words(
+        &self,
+        alloc: Global,
+        key: u32,
+        value: u64,
+    ) -> Result<String, AllocError> {
+        let variable = self.variable(alloc, key)?;
+        match self.held(key, value) {
+            Held::Nothing => {
+                format!(in alloc; "found nothing at {variable}, though nobody deletes it")
+            }
+            Held::Value(_) | Held::Mark => {
+                let value = self.value(alloc, key, value)?;
+                format!(in alloc; "read {value}, which nobody wrote to {variable}")
+            }
+        }
+    }
+
+    fn initial_words(&self, alloc: Global, key: u32, value: u64) -> Result<String, AllocError> {
+        match self.held(key, value) {
+            Held::Nothing => String::from_str(alloc, "it holds nothing at the start"),
+            Held::Value(_) | Held::Mark => {
+                let value = self.value(alloc, key, value)?;
+                format!(in alloc; "its initial value is {value}")
+            }
+        }
+    }
+
+    fn unwritten_words(&self, key: u32, value: u64) -> &'static str {
+        match self.held(key, value) {
+            Held::Nothing => "though nobody deletes it",
+            Held::Value(_) | Held::Mark => "which nobody wrote",
+        }
+    }
+
+    fn write_words(&self, alloc: Global, key: u32, value: u64) -> Result<String, AllocError> {
+        if !is_mark(key) && is_deleted(value) {
+            return String::from_str(alloc, "deleted it");
+        }
+        let value = self.value(alloc, key, value)?;
+        format!(in alloc; "wrote {value} to it")
+    }
+}
+
+// What a client did by a call, and its notes.
+fn noted_words<T: LogTables>(
+    alloc: Global,
+    tables: &T,
+    stood: StoodFor,
+) -> Result<String, AllocError> {
+    let words = call_words(alloc, tables, stood)?;
+    with_notes(alloc, tables, words, stood.place)
+}
+
+// A client by its name, as a session.
+fn session_of_client<T: LogTables>(
+    alloc: Global,
+    tables: &T,
+    client: u32,
+) -> Result<String, AllocError> {
+    let name = client_name(alloc, tables, client)?;
+    format!(in alloc; "client {name}")
+}
+
+// The client of a session that has a number, where it is one.
+fn session_of_number<T: LogTables>(
+    alloc: Global,
+    tables: &T,
+    session: u64,
+) -> Result<String, AllocError> {
+    match u32::try_from(session) {
+        Ok(client) if session < tables.clients() => session_of_client(alloc, tables, client),
+        _ => format!(in alloc; "session {session}"),
+    }
+}
+
+// The first 8 keys of a log by their names, and how many more there are.
+fn listed_keys<T: LogTables>(
+    alloc: Global,
+    tables: &T,
+    keys: &[u32],
+) -> Result<String, AllocError> {
+    let mut named = Vec::new(alloc);
+    for key in keys.iter().take(MAX_KEYS) {
+        named.push(key_words(alloc, tables, *key)?)?;
+    }
+    listed(alloc, &named, keys.len().saturating_sub(MAX_KEYS))
+}
+
+// What is said of reads that are left out, at this many keys.
+fn left_out_words(
+    alloc: Global,
+    reads: u64,
+    keys: usize,
+    listed: &str,
+) -> Result<String, AllocError> {
+    let (ending, they) = if reads == 1 {
+        ("", "it asks")
+    } else {
+        ("s", "they ask")
+    };
+    let are = if keys == 1 { "is" } else { "are" };
+    format!(in alloc;
+        "{reads} read{ending} found nothing at {listed}, which {are} deleted at some time: {they} nothing."
+    )
+}

@@ -1,7 +1,0 @@
-use Rattle.std.proofs.Common.{ℕ, ◌<◌}
-use Rattle.std.specs.Prelude.{slice_get}
-use Rattle.snapshot.specs.Steps.Comparing.{ReturnAgrees}
-use Rattle.snapshot.proofs.comparing.compare_returns.Given as goal
-
-abbrev pub invariant-loop-i : goal.invariant-loop-i
-invariant-loop-i g l = (i : ℕ) → i < l.i → ReturnAgrees l.lane.returns i (slice_get l.session.done i)

@@ -1,6 +1,0 @@
-use Rattle.token_reader.proofs.FewDigits.{AreDigitsOf}
-use Rattle.token_reader.proofs.digits.number_of_few.Given as goal
-
--- the number that the digits so far write
-abbrev pub invariant-loop-byte : goal.invariant-loop-byte
-invariant-loop-byte l = AreDigitsOf l.bytes l.byte-index l.number

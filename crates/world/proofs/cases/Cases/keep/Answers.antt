@@ -1,5 +1,0 @@
-use Rattle.world.proofs.RefuteSteps.{keeps}
-use Rattle.world.proofs.cases.Cases.keep.Goals as goal
-
-pub returns : goal.returns
-returns g c = keeps c.args.self.now c.against-taken.new.self c.args.c c.args.pattern c.against-taken.result c.against-taken.ensures.refuted c.against-taken.ensures.refused

@@ -1,4 +1,0 @@
-use Rattle.world.proofs.world.World.new.Goals as goal
-
-pub returns : goal.returns
-returns g c = record { lanes = c.in_ok-recording.ensures; board = c.in_ok-cases.ensures c.args.start c.args.k }
