@@ -1,5 +1,5 @@
 -- What the words after a command say, one by one, and the task that they give.
-use Rattle.std.proofs.Common.{◌≡◌, ◌≤◌, ◌∙◌, ◌-◌, Bool, true, false, refl, List, [], ◌∷◌, length, map, drop, take, get_or, arith, sym, ap, subst, Option, Some, None, inl, inr, ⊎_elim, MatchOption}
+use Rattle.std.proofs.Common.{◌≡◌, ◌≤◌, ◌∙◌, ◌-◌, Bool, true, false, List, [], ◌∷◌, length, map, drop, take, get_or, arith, sym, ap, subst, Option, Some, None, inl, inr, ⊎_elim, MatchOption}
 use Rattle.std.proofs.lemmas.List.{take_all}
 use Rattle.std.proofs.lemmas.Option.{same_Some}
 use Rattle.clap.specs.Words.{Text}
@@ -107,11 +107,6 @@ same_said : (before : Said) (words rest : List Text) (r : Option Said) → SaySa
     → MatchOption r ((after : Said) → ¬ Say before None words after) (Say before None words)
 same_said before words rest None same none = λ after say. none after ((same before after).0 say)
 same_said before words rest (Some after) same say = (same before after).1 say
-
-pub says_nothing : {A : Type 0} (f : A → Text) (before : Said) (words rest : List A) → length rest ≡ 0 → SaySame (map f words) (map f rest)
-    → Say before None (map f words) before
-says_nothing f before words [] none same = (same before before).1 refl
-says_nothing f before words (x ∷ xs) none same = absurd (omega arith)
 
 first_no_file : {A : Type 0} (f : A → Text) (xs : List A) (a : A) (w : Text) → 1 ≤ length xs → a ≡ get_or xs 0 a → w ≡ f a
     → BeginsWithNoFile (map f xs) → ¬ NamesFile w

@@ -23,13 +23,6 @@ pub refusal_answers : (long : Length) (expected : Expected) (line before after :
 refusal_answers long expected line before after error (Ok outcome) is told = (told.0, inr (told.1 long line is), told.2)
 refusal_answers long expected line before after error (Err fault) is told = tt
 
--- a line that is not skipped is answered as one that is to hold a history
-pub history_answers : (judging : LineJudging) (line before after : List ℕ) (r : Result Outcome Fault) → ¬ IsSkipped judging.blank line
-    → IfOk r (AppendsAnswer (IsHistoryAnswer judging.judging.length judging.judging.expected line) before after)
-    → IfOk r (AppendsAnswer (IsLineAnswer judging line) before after)
-history_answers judging line before after (Ok outcome) other told = (told.0, inr (other, told.1), told.2)
-history_answers judging line before after (Err fault) other told = tt
-
 -- a line that is too long is not skipped
 longer_not_skipped : (blank : BlankLines) (line : List ℕ) → MAX_INPUT_BYTES < length line → ¬ IsSkipped blank line
 longer_not_skipped blank line longer skipped = let short : length line ≤ MAX_INPUT_BYTES = skipped.short in absurd (omega arith)

@@ -19,7 +19,3 @@ one_line_more text line new same is one = (
   All-append (LacksByte 0x0A) is.0 (line ∷ []) is.1 (All-cons (LacksByte 0x0A) line [] one (All-nil (LacksByte 0x0A))),
   same ∙ same_behind text line is.0 is.2 ∙ last_behind is.0 line,
 )
-
--- none at all
-pub no_lines : IsIndented []
-no_lines = ([], All-nil (LacksByte 0x0A), refl)

@@ -19,16 +19,6 @@ pushed-last : (xs : List ℕ) (x : ℕ) → slice_get (xs ++ x ∷ []) (length x
 pushed-last [] x = refl
 pushed-last (y ∷ ys) x = pushed-last ys x
 
--- before anything is placed
-pub cut_begins : (whole limits : List ℕ) → IsCut whole limits (0 ∷ []) []
-cut_begins whole limits = record {
-  begins = omega arith;
-  within = omega arith;
-  first = refl;
-  kept = λ i s below here free. absurd (omega arith);
-  left_out = λ i s below here reached. absurd (omega arith);
-}
-
 module _ (whole limits starts schedule : List ℕ) (cut : IsCut whole limits starts schedule) where
   -- the operation at a place is placed behind so many, or left out
   module _ (i : ℕ) (below : i + 1 < length starts) where

@@ -17,10 +17,6 @@ one_word word other ds es same =
     let rest : ds ≡ es = cc in
     (words, rest)
 
--- and so are equally long
-pub sized : (word : List ℕ) (ds : List Data) (other : List ℕ) (es : List Data) → worded word ds ≡ worded other es → length ds ≡ length es
-sized word ds other es same = ap length (one_word word other ds es same).1
-
 module _ {V : Type 0} (view : V → Data) (d : Data) (values : List V) (has : Some (map view values) ≡ elements d) where
   pub is_list : d ≡ list (map view values)
   is_list = list_from_elements d (map view values) (sym has)

@@ -1,10 +1,10 @@
 -- What is handed out of an input.
 use Rattle.std.proofs.Common.{◌≡◌, ◌≢◌, ◌+◌, ◌-◌, ◌<◌, ◌≤◌, ℕ, Bool, true, false, List, [], ◌∷◌, ◌++◌, Option, None, Some, IfSome, IfOk, Result, Ok, Err, length, take, drop, refl, sym, ap, subst, ◌∙◌, arith, append_assoc, append-nil, take_all, le_refl, eqb-true}
 use Rattle.std.specs.Io.KnownBytes.{Consumes, IsAtEnd}
-use Rattle.std.proofs.KnownBytes.{Consumes-nil, Consumes-trans}
+use Rattle.std.proofs.KnownBytes.{Consumes-trans}
 use Rattle.std.proofs.Math.Seq.{drop-append_seam}
 use Rattle.std.proofs.lemmas.List.{drop-append-le, drop-drop, drop_all, length-append, length-drop, length-take, length-take-le, take_rest}
-use Rattle.std.proofs.lemmas.List.Elements.{All-append, All-nil}
+use Rattle.std.proofs.lemmas.List.Elements.{All-append}
 use Rattle.memchr.specs.Find.{IsFirstByte, is_byte}
 use Rattle.json_lines.specs.Lines.{lines_of}
 use Rattle.json_lines.specs.Steps.{IsFree, Takes}
@@ -23,9 +23,6 @@ if-ok (Err e) P Q goes is = tt
 
 -- ---- passing over
 
-pub passed-none : (a : Option (List ℕ)) → Passed a a 0
-passed-none a = ([], All-nil (λ b. b ≢ 10), Consumes-nil a, refl)
-
 pub passed-more : (a b c : Option (List ℕ)) (bytes : List ℕ) (count more : ℕ) → Passed a b count → Consumes b c bytes → IsFirstByte (is_byte 10) bytes None → more ≡ count + length bytes
     → Passed a c more
 passed-more a b c bytes count more (rest, free, consumed, counted) next none is = (
@@ -34,10 +31,6 @@ passed-more a b c bytes count more (rest, free, consumed, counted) next none is 
   Consumes-trans a b c rest bytes consumed next,
   is ∙ ap (λ n. n + length bytes) counted ∙ sym (length-append rest bytes),
 )
-
-pub passes-end : (a b c : Option (List ℕ)) (count : ℕ) (held : List ℕ) → Passed a b count → Consumes b c [] → IsAtEnd c → held ≡ [] → Passes a c count held true
-passes-end a b c count held (rest, free, consumed, counted) none end empty =
-    ((rest, free, subst (λ l. Consumes a c l) (append-nil rest) (Consumes-trans a b c rest [] consumed none), counted), end, empty)
 
 pub passes-found : (a b c : Option (List ℕ)) (bytes held : List ℕ) (k count more : ℕ) → Passed a b count → Consumes b c bytes → IsFirstByte (is_byte 10) bytes (Some k)
     → held ≡ take (length bytes - (k + 1)) (drop (k + 1) bytes) → more ≡ count + (k + 1) → Passes a c more held false

@@ -49,9 +49,6 @@ zero-none k has = let is = bit_at-zero k in omega arith
 pub some-bit : (a : ℕ) → a ≢ 0 → a < 2 ^ 128 → (k : ℕ) × (k < 128) × HasBit a k
 some-bit a apart small = let found = bit_at-trailing_zeros w128 a (omega arith) small in (_, found.0, found.1)
 
-pub not-zero : (a k : ℕ) → HasBit a k → a ≢ 0
-not-zero a k has same = zero-none k (subst (λ (n : ℕ). HasBit n k) same has)
-
 pub set-bit : (a j k : ℕ) → j < 128 → HasBit (bit_or a (1 * 2 ^ j % 2 ^ 128)) k ↔ (HasBit a k ⊎ (k ≡ j))
 set-bit a j k below =
     let same = bit_at_set_same w128 a j below in (

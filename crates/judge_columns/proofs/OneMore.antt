@@ -28,13 +28,6 @@ module _ (first old : Type 0) (P : ℕ → Type 0) (n : ℕ) (was : old ↔ (fir
   pub one-whole : (m : ℕ) → m ≡ n → old ↔ (first ⊎ ((k : ℕ) × (k < m) × P k))
   one-whole m same = subst (λ (i : ℕ). old ↔ (first ⊎ ((k : ℕ) × (k < i) × P k))) (sym same) was
 
--- at first there is none
-pub one-none : (first : Type 0) (P : ℕ → Type 0) → first ↔ (first ⊎ ((k : ℕ) × (k < 0) × P k))
-one-none first P = (
-  (λ is. inl is),
-  λ either. ⊎_elim (λ (is : first). is) (λ (some : (k : ℕ) × (k < 0) × P k). let below = some.1 in absurd (omega arith)) either,
-)
-
 -- the same of bits up to one
 module _ (old : Type 0) (Q : ℕ → Type 0) (bit k : ℕ) (was : old ↔ ((k < bit) × Q k)) where
   pub bit-more : (new here : Type 0) → new ↔ (old ⊎ (here × (k ≡ bit))) → here ↔ Q bit → new ↔ ((k < bit + 1) × Q k)

@@ -1,11 +1,9 @@
 -- What a token says, alone or as the first of a value.
 use Rattle.std.proofs.Common.{◌≡◌, ℕ, List, ◌∷◌, Some, option_map, refl, ap, ◌∙◌}
 use Rattle.json.specs.Token.{Token}
-use Rattle.serde_json.specs.Data.{Data, null, boolean, number, string, array, object, unsigned}
+use Rattle.serde_json.specs.Data.{number, string, unsigned}
 use Rattle.serde_json.specs.Read.{number_of}
-use Rattle.json_bounded.specs.Cut.{cut}
 use Rattle.json_bounded.proofs.Tokens.{at_number, at_string}
-use Rattle.json_histories.specs.Places.{inside_of, limit_of}
 use Rattle.json_histories.specs.declared.history_place.HistoryPlace.TheVariants as places
 use Rattle.judge_reader.specs.Steps.Scalars.{IsAlone, scalar_of, text_scalar}
 use Rattle.json_tokens.specs.Tokens.{IsValue}
@@ -20,12 +18,3 @@ number_alone s n is = (number (unsigned n), (λ depth ts. at_number depth ts s �
 
 pub alone_read : (t : Token) (s : Scalar) (depth : ℕ) (ts : List Token) → IsAlone t s → IsValue (λ d. scalar_of d ≡ s) depth (t ∷ ts) ts
 alone_read t s depth ts alone = (alone.0, alone.1 depth ts, alone.2)
-
--- nothing that a scalar says is cut off
-pub scalar_same : (d : Data) → scalar_of (cut limit_of inside_of places.Scalar d) ≡ scalar_of d
-scalar_same null = refl
-scalar_same (boolean b) = refl
-scalar_same (number n) = refl
-scalar_same (string s) = refl
-scalar_same (array ds) = refl
-scalar_same (object ms) = refl

@@ -102,12 +102,6 @@ module _ (st : PlanState) (o : OpId) where
   pub next_calls : state_next st ≡ Some (Call o) → (l : LanePlan) × (slice_get st.lanes o.session ≡ Some l) × (call_place st.cap l ≡ Some o.index) × (return_place st.cap l ≡ None)
   next_calls e = elim (or_cases (first_of (return_of st.cap) 0 st.lanes) (first_of (call_of st.cap) 0 st.lanes) (Call o) e) [ inl h ↦ absurd (no_call h) | inr h ↦ calls_named h.0 h.1 ]
 
-pub left_at : (cap : ℕ) (l : LanePlan) (ls : List LanePlan) (s : ℕ) → slice_get ls s ≡ Some l → lane_left cap l ≤ left_of cap ls
-left_at cap l [] zero e = absurd (cc)
-left_at cap l [] (suc s) e = absurd (cc)
-left_at cap l (m ∷ ls) zero e = let same : m ≡ l = cc in subst (λ (x : LanePlan). lane_left cap l ≤ lane_left cap x + left_of cap ls) (sym same) (omega arith)
-left_at cap l (m ∷ ls) (suc s) e = let h : lane_left cap l ≤ left_of cap ls = left_at cap l ls s e in omega arith
-
 fewer_set : (cap : ℕ) (l new : LanePlan) → lane_left cap new < lane_left cap l → (ls : List LanePlan) (s : ℕ) → slice_get ls s ≡ Some l → left_of cap (set ls s new) < left_of cap ls
 fewer_set cap l new h [] zero e = absurd (cc)
 fewer_set cap l new h [] (suc s) e = absurd (cc)

@@ -1,11 +1,11 @@
 -- Chains of the calls of each client.
-use Rattle.std.proofs.Common.{◌≡◌, ℕ, suc, ◌+◌, ◌-◌, ◌<◌, ◌≤◌, List, [], ◌∷◌, ◌++◌, length, drop, set, refl, ap, sym, subst, ◌∙◌, inl, inr, ⊎_elim, arith, append_assoc, drop-cons, eq-eqb}
+use Rattle.std.proofs.Common.{◌≡◌, ℕ, suc, ◌+◌, ◌-◌, ◌<◌, ◌≤◌, List, [], ◌∷◌, ◌++◌, length, drop, set, ap, sym, subst, ◌∙◌, inl, inr, ⊎_elim, arith, append_assoc, drop-cons, eq-eqb}
 use Rattle.std.specs.Prelude.{◌≢◌, ◌⊎◌, ◌==◌, filter, slice_get, slice_index, Some}
 use Rattle.std.proofs.lemmas.Bool.{cases_eq, ne_eqb}
 use Rattle.std.proofs.lemmas.List.{append-nil, drop_all, get_or-set_other, get_or-set_same, length-set}
 use Rattle.std.proofs.lemmas.Option.{slice_get_within, get_or_from_slice_get}
 use Rattle.log_events.specs.Events.{Call}
-use Rattle.log_events.specs.Steps.Chains.{AreChains, AreChainsFrom, IsOnChain, Leads, left}
+use Rattle.log_events.specs.Steps.Chains.{AreChainsFrom, IsOnChain, Leads, left}
 
 -- a change of a link before those of a chain
 Leads-set : (calls : List Call) (next : List ℕ) (low link i v : ℕ) (rest : List Call) → i < low → Leads calls next low link rest
@@ -95,16 +95,6 @@ chains-more calls clients first next n a chains at known =
         (subst (λ (m : ℕ). Leads calls (later_of first next n a) n m (filter (λ (b : Call). b.client == client) l)) (sym same)
         (Leads-lower calls (later_of first next n a) n (n + 1) (slice_index first client) (filter (λ (b : Call). b.client == client) l) (omega arith)
         (Leads-set calls next (n + 1) (slice_index first client) n (slice_index first a.client) (filter (λ (b : Call). b.client == client) l) (omega arith) leads)))
-
--- the start of a chain
-pub on_chain-start : (calls : List Call) (clients : ℕ) (first next : List ℕ) (client : ℕ) → AreChains calls clients first next → client < clients
-    → IsOnChain calls next (filter (λ (a : Call). a.client == client) calls) [] (slice_index first client)
-on_chain-start calls clients first next client chains below = record {
-  low = 0;
-  rest = filter (λ (a : Call). a.client == client) calls;
-  leads = chains.lead client below;
-  joined = refl;
-}
 
 -- a link to a call, and the way on from there
 pub record IsStep (calls : List Call) (next : List ℕ) (all found : List Call) (link : ℕ) (a : Call) : Type 0 where

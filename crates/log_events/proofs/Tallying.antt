@@ -4,7 +4,7 @@ use Rattle.std.specs.Prelude.{◌≢◌, ◌==◌, if◌then◌else◌, cond, Co
 use Rattle.std.specs.List.Sorted.{IsStrictlyIncreasing}
 use Rattle.std.proofs.lemmas.Bool.{cases_eq, ne_eqb}
 use Rattle.std.proofs.lemmas.List.{get_or_default, get_or-set_other, get_or-set_same, get_or-take, length-append, length-set, length-take-le}
-use Rattle.std.proofs.lemmas.List.Elements.{All-nil, All-push, All-weaker, Contains-append_left, Contains-push, Contains-push_cases, filter-append}
+use Rattle.std.proofs.lemmas.List.Elements.{All-push, All-weaker, Contains-append_left, Contains-push, Contains-push_cases, filter-append}
 use Rattle.std.proofs.lemmas.List.Kept.{AllPairs-from_increasing}
 use Rattle.model_objects.specs.Table.{value_at}
 use Rattle.log_events.specs.Steps.Tallies.{AreCounted, IsTally, count_in}
@@ -25,10 +25,6 @@ count_in-same xs x y same = count_in-push xs x y ∙ rw (eq-eqb x y same) refl
 
 count_in-apart : (xs : List ℕ) (x y : ℕ) → x ≢ y → count_in (xs ++ x ∷ []) y ≡ count_in xs y
 count_in-apart xs x y apart = count_in-push xs x y ∙ rw (ne_eqb x y apart) (omega arith)
-
--- nothing is counted of no elements
-pub counted-none : (keys counts : List ℕ) → length counts ≡ length keys → ((k : ℕ) → k < length keys → slice_index counts k ≡ 0) → AreCounted [] keys counts
-counted-none keys counts as_many none = record { as_many = as_many; each = none }
 
 -- one more element that is a key
 pub counted-more : (xs keys counts : List ℕ) (x p : ℕ) → AreCounted xs keys counts → IsStrictlyIncreasing keys → p < length keys → get_or keys p 0 ≡ x
@@ -85,15 +81,6 @@ value_at-push_same (e ∷ tally) k n none =
       | true ↦ λ some. absurd cc
       | false ↦ λ rest. value_at-push_same tally k n rest
     ] none
-
-pub tally-none : (xs : List ℕ) → IsTally xs [] []
-tally-none xs = record {
-  rising = λ k inside. absurd (omega arith);
-  positive = All-nil (λ entry. 0 < entry.1);
-  among = All-nil (λ entry. Contains [] entry.0);
-  listed = λ x (k, below, _). absurd (omega arith);
-  other = λ x none. refl;
-}
 
 module _ (xs keys : List ℕ) (x : ℕ) (tally : List (ℕ × ℕ)) (is_tally : IsTally xs keys tally) (above : (k : ℕ) → k < length keys → slice_index keys k < x) where
   no_key : ¬ Contains keys x

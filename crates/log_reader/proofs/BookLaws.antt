@@ -1,8 +1,8 @@
 -- Logs whose events have names.
-use Rattle.std.proofs.Common.{◌≡◌, ◌<◌, ◌+◌, ℕ, List, [], ◌∷◌, ◌++◌, length, refl, sym, ap, subst, ◌∙◌, arith, append_assoc}
+use Rattle.std.proofs.Common.{◌≡◌, ◌<◌, ◌+◌, ℕ, List, [], ◌∷◌, ◌++◌, length, sym, ap, subst, ◌∙◌, arith, append_assoc}
 use Rattle.std.specs.List.{All}
-use Rattle.std.proofs.lemmas.List.{append-nil, length-append, length_push}
-use Rattle.std.proofs.lemmas.List.Elements.{All-nil, All-push, All-weaker}
+use Rattle.std.proofs.lemmas.List.{append-nil, length-append}
+use Rattle.std.proofs.lemmas.List.Elements.{All-weaker}
 use Rattle.log_events.specs.declared.event.ClientCall.{ClientCall}
 use Rattle.log_events.specs.declared.event.ClientCall.TheVariants.{WriteTo, ReadOf, DeleteOf}
 use Rattle.log_events.specs.declared.event.Ending.{Ending}
@@ -11,7 +11,7 @@ use Rattle.log_events.specs.declared.event.Event.{Event}
 use Rattle.log_events.specs.declared.event.Event.TheVariants.{Starts, Begins, Ends}
 use Rattle.log_reader.specs.BookSteps.{IsBook}
 use Rattle.log_reader.specs.Forms.{write}
-use Rattle.log_reader.specs.Logs.{Log, call_of, key_number, no_log, value_number, with_event, with_key}
+use Rattle.log_reader.specs.Logs.{Log, call_of, key_number, value_number, with_key}
 use Rattle.log_reader.specs.Names.{Name}
 use Rattle.log_reader.specs.Readings.{Extends, Grows, IsCallNamed, IsEndingNamed, IsNamed}
 
@@ -22,9 +22,6 @@ grows-same xs = ([], sym (append-nil xs))
 
 pub grows-more : {X : Type 0} (a b c : List X) → Grows a b → Grows b c → Grows a c
 grows-more a b c (m, first) (n, second) = (m ++ n, second ∙ ap (λ l. l ++ n) first ∙ append_assoc a m n)
-
-pub grows-push : {X : Type 0} (xs : List X) (x : X) → Grows xs (xs ++ x ∷ [])
-grows-push xs x = (x ∷ [], refl)
 
 pub longer : {X : Type 0} (a b : List X) (n : ℕ) → Grows a b → n < length a → n < length b
 longer a b n (more, is) low = omega (arith, low, ap length is, length-append a more)
@@ -46,9 +43,6 @@ extends-more a b c first second = record {
   events = grows-more a.events b.events c.events first.events second.events;
   lines = grows-more a.lines b.lines c.lines first.lines second.lines;
 }
-
-pub extends-to : (a b c : Log) → c ≡ b → Extends a b → Extends a c
-extends-to a b c same extends = subst (λ (l : Log). Extends a l) (sym same) extends
 
 -- ---- names of events
 
@@ -81,33 +75,12 @@ write_call log a key value x v a_is x_is v_is =
 
 -- ---- what is kept
 
-pub book-none : IsBook no_log
-book-none = record { numbered = refl; named = All-nil (IsNamed no_log) }
-
 -- names were met
 pub book-more : (a b : Log) → Extends a b → b.events ≡ a.events → b.lines ≡ a.lines → IsBook a → IsBook b
 book-more a b extends events lines book = record {
   numbered = ap length lines ∙ book.numbered ∙ ap length (sym events);
   named = subst (λ (es : List Event). All (IsNamed b) es) (sym events) (all_more a b a.events extends book.named);
 }
-
--- an event was added
-pub extends-event : (log : Log) (n : ℕ) (e : Event) → Extends log (with_event log n e)
-extends-event log n e = record {
-  clients = grows-same log.clients;
-  keys = grows-same log.keys;
-  values = grows-same log.values;
-  events = grows-push log.events e;
-  lines = grows-push log.lines n;
-}
-
-pub book-event : (log : Log) (n : ℕ) (e : Event) → IsNamed log e → IsBook log → IsBook (with_event log n e)
-book-event log n e named book =
-    let after : Log = with_event log n e in
-    record {
-      numbered = length_push log.lines n ∙ ap (λ m. m + 1) book.numbered ∙ sym (length_push log.events e);
-      named = All-push (IsNamed after) log.events e (all_more log after log.events (extends-event log n e) book.named) (named_more log after e (extends-event log n e) named);
-    }
 
 -- tables grew
 module _ (log : Log) where

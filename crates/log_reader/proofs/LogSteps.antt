@@ -17,10 +17,6 @@ pub follow-none : (n : ℕ) (log : Log) → Follow n log [] log
 unfolding Follow
 follow-none n log = refl
 
-follow-one : (n : ℕ) (before : Log) (line : List ℕ) (after : Log) → Takes n before line after → Follow n before (line ∷ []) after
-unfolding Follow
-follow-one n before line after takes = (after, takes, refl)
-
 pub follow-push : (n : ℕ) (a b c : Log) (lines : List (List ℕ)) (line : List ℕ) → Follow n a lines b → Takes (n + length lines) b line c → Follow n a (lines ++ line ∷ []) c
 unfolding Follow
 follow-push n a b c [] line same takes =

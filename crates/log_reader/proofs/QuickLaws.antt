@@ -1,26 +1,22 @@
 -- Lines of the common forms, token by token.
-use Rattle.std.proofs.Common.{◌≡◌, ◌<◌, ◌≤◌, ◌-◌, ℕ, Bool, true, false, List, [], ◌∷◌, length, slice_index, Option, Some, refl, sym, ap, subst, ◌∙◌, arith}
+use Rattle.std.proofs.Common.{◌≡◌, ◌<◌, ◌≤◌, ◌-◌, ℕ, Bool, true, false, List, [], ◌∷◌, length, Option, Some, refl, sym, ap, subst, ◌∙◌, arith}
 use Rattle.std.specs.Prelude.{codes, option_and_then, option_map}
-use Rattle.std.specs.Str.{IsUtf8}
 use Rattle.json.specs.Json as json
 use Rattle.json.specs.Json.{after_end_array, items, parse_map, value}
-use Rattle.json.specs.Lex.{tokens}
 use Rattle.json.specs.Token.{Token}
 use Rattle.json.proofs.Grammar.{left, skip_value-shorter}
 use Rattle.serde_json.specs.Data.{Data, null, boolean, number, string, array, item, unsigned}
-use Rattle.serde_json.specs.Read.{converted, number_of, of_items, of_json, read}
+use Rattle.serde_json.specs.Read.{converted, number_of, of_items, of_json}
 use Rattle.serde_json.specs.View.{items_of}
 use Rattle.json_bounded.proofs.Tokens.{at_begin_array, at_boolean, at_null, at_number, at_string}
 use Rattle.json_bounded.proofs.Turns.{converted_some, item_read, items_over}
 use Rattle.json_histories.specs.Json.{elements}
 use Rattle.json_histories.specs.Laws.Json.{listed-items_of}
 use Rattle.log_reader.specs.Forms.{Said, SaidCall, SaidEnding, start, begin, end, write, read as read_of, delete, answer, failed, lost, answer_at, call_in, said_in}
-use Rattle.json_lines.specs.Lines.{is_blank}
 use Rattle.log_reader.specs.Names.{Name, name_of, value_name}
-use Rattle.log_reader.specs.QuickSteps.{AreCallRest, AreNext, AreRest, AreSaid, IsNext, IsNextCall, IsNextWith, IsSaidIn, IsSaidOn}
+use Rattle.log_reader.specs.QuickSteps.{AreCallRest, AreNext, AreRest, AreSaid, IsNext, IsNextCall, IsNextWith}
 use Rattle.log_reader.specs.Steps.{name_in}
 use Rattle.log_reader.specs.declared.name_value.NameValue.TheVariants.{Truth}
-use Rattle.log_reader.specs.declared.limits.TheConstants.{MAX_LINE_BYTES}
 
 -- ---- a token that is a value
 
@@ -57,19 +53,6 @@ next_shorter : (depth : ℕ) (d : Data) (old new : List Token) → IsNext depth 
 next_shorter depth d old new next =
     let found = converted_some of_json (value depth old) d new next.0 in
     skip_value-shorter depth old new (ap left found.1)
-
-bracket_shorter : (old new : List Token) → after_end_array old ≡ Some new → length new < length old
-bracket_shorter [] new is = absurd cc
-bracket_shorter (Token.begin_object ∷ ts) new is = absurd cc
-bracket_shorter (Token.end_object ∷ ts) new is = absurd cc
-bracket_shorter (Token.begin_array ∷ ts) new is = absurd cc
-bracket_shorter (Token.end_array ∷ ts) new is = let same : ts ≡ new = cc in omega (arith, ap length same)
-bracket_shorter (Token.key s ∷ ts) new is = absurd cc
-bracket_shorter (Token.string s ∷ ts) new is = absurd cc
-bracket_shorter (Token.number s ∷ ts) new is = absurd cc
-bracket_shorter (Token.boolean b ∷ ts) new is = absurd cc
-bracket_shorter (Token.null ∷ ts) new is = absurd cc
-bracket_shorter (Token.bad ∷ ts) new is = absurd cc
 
 list_read : (depth : ℕ) (ds : List Data) (old mid new : List Token) (n : ℕ) → AreNext depth ds old mid → after_end_array mid ≡ Some new → length old ≤ n
     → converted of_items (items (value depth) n old) ≡ Some (items_of ds, new)
@@ -151,16 +134,3 @@ whole_read : (o : Option (json.Json × List Token)) (d : Data) → converted of_
 whole_read o d is =
     let found = converted_some of_json o d [] is in
     ap (λ (x : Option (json.Json × List Token)). option_and_then of_json (option_and_then (λ p. json.if_last p.0 p.1) x)) found.1 ∙ found.2
-
-pub text_said : (text : List ℕ) (ts : List Token) (said : Said) → ts ≡ tokens text → AreSaid ts said → IsSaidIn text said
-text_said text ts said is (d, next, says) =
-    (d, whole_read (value 127 (tokens text)) d (subst (λ (xs : List Token). converted of_json (value 127 xs) ≡ Some (d, [])) is next), says)
-
-full_by : (line : List ℕ) → 0 < length line → slice_index line 0 ≡ 91 → is_blank line ≡ false
-full_by [] some first = absurd (omega arith)
-full_by (b ∷ line) some first = rw first refl
-
-pub line_said : (line text : List ℕ) (said : Said) → 0 < length line → slice_index line 0 ≡ 91 → length line ≤ MAX_LINE_BYTES → IsUtf8 line → text ≡ line → IsSaidIn text said
-    → IsSaidOn line said
-line_said line text said some first few utf8 is (d, read_is, says) =
-    ((few, full_by line some first), (d, (utf8, ap read (sym is) ∙ read_is), says))

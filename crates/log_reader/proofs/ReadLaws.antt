@@ -178,15 +178,6 @@ module _ (text taken : List ℕ) (log : Log) (held : List ℕ) (count : ℕ) (ha
 faults_memory : (text : List ℕ) (known : Option (List ℕ)) → IfSome known (λ bytes. FaultsFor (text ++ bytes) Memory)
 faults_memory text known = some_always (λ bytes. FaultsFor (text ++ bytes) Memory) known (λ _. tt)
 
-faults_read : (text : List ℕ) (known : Option (List ℕ)) → IfSome known (λ bytes. FaultsFor (text ++ bytes) Read)
-faults_read text known = some_always (λ bytes. FaultsFor (text ++ bytes) Read) known (λ _. tt)
-
-pub memory_fault : (known : Option (List ℕ)) (old : Reading) (fault : LogFault) → fault ≡ Memory → FaultsAt known old fault
-memory_fault known old fault is = subst (λ (f : LogFault). FaultsAt known old f) (sym is) (λ text _. faults_memory text known)
-
-pub read_fault : (known : Option (List ℕ)) (old : Reading) (fault : LogFault) → fault ≡ Read → FaultsAt known old fault
-read_fault known old fault is = subst (λ (f : LogFault). FaultsAt known old f) (sym is) (λ text _. faults_read text known)
-
 module _ (before mid : Option (List ℕ)) (taken : List ℕ) (consumed : Consumes before mid taken) (log : Log) (held : List ℕ) (count : ℕ) where
   pub line_fault : (line rest : List ℕ) (fault : LogFault) → held ++ taken ≡ line ++ 10 ∷ rest → IsFree line → IsLineFault log line (count + 1) fault
       → FaultsAt before (reading log held count) fault
@@ -264,10 +255,6 @@ more_fault a b old mid fault first last text has =
 pub line_reads : (a b : Option (List ℕ)) (old new : Reading) (p : Progress) → ReadsLine a b old new (Some p) → Reads a b old new p
 line_reads a b old new More line = absurd line
 line_reads a b old new (End torn) line = line
-
-pub never_more : (a b : Option (List ℕ)) (old new : Reading) (p : Progress) → ReadsLine a b old new (Some p) → p ≢ More
-never_more a b old new More line is = line
-never_more a b old new (End torn) line is = absurd cc
 
 pub more_reads : (a b c : Option (List ℕ)) (old mid new : Reading) (p : Progress) → ReadsMore a b old mid → Reads b c mid new p → Reads a c old new p
 more_reads a b c old mid new More first last = more_more a b c old mid new first last

@@ -14,7 +14,7 @@ pub trait SeqObject: Drop + Sized {
     /// What the object answers.
     type Ret: Copy + Eq + Send + Sync;
     /// What the object holds before the first call.
-    type Start: Eq + Drop + Send + Sync;
+    type Start: Drop + Send + Sync;
 
     /// The answer to a call after the earlier calls, from a start.
     ghost answer: { Self.Start → List Self.Call → Self.Call → Self.Ret };
@@ -113,6 +113,4 @@ pub trait SeqObject: Drop + Sized {
     ghost equal_calls: { (a b : Self.Call) → (Self.Call.eq a b ≡ true) ↔ (a ≡ b) };
 
     ghost equal_rets: { (a b : Self.Ret) → (Self.Ret.eq a b ≡ true) ↔ (a ≡ b) };
-
-    ghost equal_starts: { (a b : Self.Start) → (Self.Start.eq a b ≡ true) ↔ (a ≡ b) };
 }

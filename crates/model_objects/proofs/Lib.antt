@@ -1,3 +1,4 @@
 pub mod KeyedLemmas
+pub mod RegisterLemmas
 pub mod SetLemmas
 pub mod TableLemmas

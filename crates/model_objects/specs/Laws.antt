@@ -5,4 +5,3 @@ pub mod Equal
 pub mod Keyed
 pub mod Queue
 pub mod Register
-pub mod Table

@@ -1,6 +1,5 @@
 -- What a table of initial values holds: a list of keys with their values.
-use Rattle.std.specs.Prelude.{◌≢◌, ℕ, ◌==◌, ◌<◌, ◌≤◌, ◌^◌, ◌&&◌, Bool, List, Option, All, length, unwrap_or}
-use Rattle.std.specs.Cmp.Lexicographic.{pointwise}
+use Rattle.std.specs.Prelude.{◌≢◌, ℕ, ◌==◌, ◌<◌, ◌≤◌, ◌^◌, List, Option, All, length, unwrap_or}
 use Rattle.std.specs.List.Sorted.{IsStrictlyIncreasing}
 use Rattle.std.specs.Map.{keys_of, lookup}
 use Rattle.model_objects.specs.declared.table.TheConstants.{MAX_ENTRIES}
@@ -17,10 +16,6 @@ module _ {S : Type 0} where
   -- the start at a key: what the table has there, or else the plain start
   abbrev pub start_at : S → List (ℕ × S) → ℕ → S
   start_at plain table key = unwrap_or (value_at table key) plain
-
-  -- two tables with equal keys, and equal values by a test of values
-  abbrev pub equal_tables : (S → S → Bool) → List (ℕ × S) → List (ℕ × S) → Bool
-  equal_tables eq s t = pointwise (λ a b. (a.0 == b.0) && eq a.1 b.1) s t
 
   -- what may be the start of a keyed object: few keys that rise, each with a start that is not the plain one
   pub record IsTable (plain : S) (is_start : S → Type 0) (table : List (ℕ × S)) : Type 0 where

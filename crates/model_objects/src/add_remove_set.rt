@@ -5,7 +5,7 @@ ghost use Rattle.model_objects.specs.AddRemoveSet.{HoldsAfter, answer as set_ans
 ghost use Rattle.model_objects.specs.AddRemoveSet.{depends as set_depends, settles as set_settles};
 ghost use Rattle.model_objects.specs.Laws.AddRemoveSet.{answer_fits, others_change_nothing, query_changes_nothing, settled};
 ghost use Rattle.model_objects.specs.Laws.AddRemoveSet.{same_adds, same_removes, same_hases, same_answers, variant_of_call, variant_of_ret};
-ghost use Rattle.model_objects.specs.Laws.Equal.{alike, apart, same_units};
+ghost use Rattle.model_objects.specs.Laws.Equal.{alike, apart};
 ghost use Rattle.model_objects.specs.declared.add_remove_set.SetCall.TheVariants.{Add, Remove, Has};
 ghost use Rattle.model_objects.specs.declared.add_remove_set.SetRet.TheVariants.{Done, Has as HasAnswer};
 
@@ -91,8 +91,6 @@ impl SeqObject for AddRemoveSet {
       | Done ↦ elim [ Done ↦ alike Done | HasAnswer b ↦ apart variant_of_ret Done (HasAnswer b) refl ]
       | HasAnswer a ↦ elim [ Done ↦ apart variant_of_ret (HasAnswer a) Done refl | HasAnswer b ↦ same_answers a b ]
     ] };
-
-    ghost equal_starts = { same_units };
 
     fn plain(_alloc: Global) -> Result<(), AllocError> {
         Ok(())

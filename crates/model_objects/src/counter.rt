@@ -5,7 +5,7 @@ ghost use Rattle.model_objects.specs.Counter.{GREATEST, increments, count_of, an
 ghost use Rattle.model_objects.specs.Counter.{depends as counter_depends, matches as counter_matches, settles as counter_settles};
 ghost use Rattle.model_objects.specs.Laws.Counter.{answer_fits, query_changes_nothing, variant_of_call, variant_of_ret};
 ghost use Rattle.model_objects.specs.Laws.Counter.{others_change_nothing, same_values, settled};
-ghost use Rattle.model_objects.specs.Laws.Equal.{alike, apart, same_units};
+ghost use Rattle.model_objects.specs.Laws.Equal.{alike, apart};
 ghost use Rattle.model_objects.specs.declared.counter.CounterCall.{CounterCall};
 ghost use Rattle.model_objects.specs.declared.counter.CounterCall.TheVariants.{Increment, Get};
 ghost use Rattle.model_objects.specs.declared.counter.CounterRet.TheVariants.{Done, Value};
@@ -87,8 +87,6 @@ impl SeqObject for Counter {
       | Done ↦ elim [ Done ↦ alike Done | Value v ↦ apart variant_of_ret Done (Value v) refl ]
       | Value u ↦ elim [ Done ↦ apart variant_of_ret (Value u) Done refl | Value v ↦ same_values u v ]
     ] };
-
-    ghost equal_starts = { same_units };
 
     fn plain(_alloc: Global) -> Result<(), AllocError> {
         Ok(())

@@ -7,7 +7,6 @@ ghost use Rattle.model_objects.specs.Table.{IsTable, start_at};
 ghost use Rattle.model_objects.specs.Keyed.{answer as keyed_answer, calls_at, depends as keyed_depends, settles as keyed_settles, Stands};
 ghost use Rattle.model_objects.specs.Laws.Keyed.{empty_is_table, equal_keyed_calls};
 ghost use Rattle.model_objects.specs.Laws.Keyed.{keyed_query_changes_nothing, keyed_others_change_nothing, keyed_settled};
-ghost use Rattle.model_objects.specs.Laws.Table.{equal_tables_decide};
 
 use crate::table::Table;
 use model_object_trait::SeqObject;
@@ -88,8 +87,6 @@ impl<O: SeqObject> SeqObject for Keyed<O> {
     ghost equal_calls = { equal_keyed_calls O.Call.eq O.equal_calls };
 
     ghost equal_rets = { O.equal_rets };
-
-    ghost equal_starts = { equal_tables_decide O.Start.eq O.equal_starts };
 
     fn plain(alloc: Global) -> Result<Table<O::Start>, AllocError> {
         Ok(Table::new(alloc))

@@ -5,7 +5,7 @@ ghost use Rattle.model_objects.specs.Queue.{left, answer as queue_answer, is_que
 ghost use Rattle.model_objects.specs.Queue.{depends as queue_depends, settles as queue_settles};
 ghost use Rattle.model_objects.specs.Laws.Queue.{answer_fits, query_changes_nothing, variant_of_call, variant_of_ret};
 ghost use Rattle.model_objects.specs.Laws.Queue.{others_change_nothing, same_pushes, same_popped, settled};
-ghost use Rattle.model_objects.specs.Laws.Equal.{alike, apart, same_units};
+ghost use Rattle.model_objects.specs.Laws.Equal.{alike, apart};
 ghost use Rattle.model_objects.specs.declared.queue.QueueCall.TheVariants.{Push, Pop};
 ghost use Rattle.model_objects.specs.declared.queue.QueueRet.TheVariants.{Done, Popped};
 
@@ -86,8 +86,6 @@ impl SeqObject for Queue {
       | Done ↦ elim [ Done ↦ alike Done | Popped b ↦ apart variant_of_ret Done (Popped b) refl ]
       | Popped a ↦ elim [ Done ↦ apart variant_of_ret (Popped a) Done refl | Popped b ↦ same_popped a b ]
     ] };
-
-    ghost equal_starts = { same_units };
 
     fn plain(_alloc: Global) -> Result<(), AllocError> {
         Ok(())

@@ -76,8 +76,6 @@ impl SeqObject for Register {
       | Value u ↦ elim [ Done ↦ value_and_done u | Value v ↦ same_values u v ]
     ] };
 
-    ghost equal_starts = { same_numbers };
-
     fn plain(_alloc: Global) -> Result<u64, AllocError> {
         Ok(0)
     }

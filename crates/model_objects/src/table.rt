@@ -1,10 +1,8 @@
 //! A table of initial values by key, for the start of a keyed object.
 
 ghost use Rattle.std.specs.Prelude.{◌≡◌, ◌↔◌, ◌++◌, ◌∷◌, [], ℕ, List, length, IsTrue, IfOk, OnOk, OnErr};
-ghost use Rattle.std.specs.Cmp.{on_per};
 ghost use Rattle.std.specs.Option.{option_copied};
-ghost use Rattle.model_objects.specs.Table.{IsRising, value_at, equal_tables};
-ghost use Rattle.model_objects.specs.Laws.Table.{equal_tables_per, equal_tables_equiv};
+ghost use Rattle.model_objects.specs.Table.{IsRising, value_at};
 
 use std::alloc::{AllocError, Global};
 use std::marker::Model;
@@ -87,18 +85,4 @@ impl<S: Drop> Table<S> {
         self.entries.push((key, start))?;
         Ok(())
     }
-}
-
-impl<S: PartialEq> PartialEq for Table<S> {
-    ghost eq = { equal_tables S.eq };
-
-    ghost laws = { equal_tables_per S.laws };
-
-    fn eq(&self, other: &Table<S>) -> bool {
-        self.entries == other.entries
-    }
-}
-
-impl<S: Eq> Eq for Table<S> {
-    ghost laws = { equal_tables_equiv S.Eq.laws };
 }

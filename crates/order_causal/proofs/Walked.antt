@@ -2,12 +2,12 @@
 use Rattle.std.specs.Prelude.{◌≡◌, ◌≢◌, ◌==◌, ℕ, ◌+◌, ◌-◌, ◌<◌, ◌≤◌, List, [], ◌∷◌, ◌++◌, length, take, Some, slice_get, max, cond}
 use Rattle.std.proofs.Common.{arith, get_or, sym, ap, subst, ◌∙◌, inl, inr, ⊎_elim, ◌⊎◌, refl, zero, suc, set}
 use Rattle.std.proofs.lemmas.Bool.{cases_eq, cases_lt, ne_eqb}
-use Rattle.std.proofs.lemmas.List.{get_or_past, get_or-set_same, get_or-set_other, set_past, length-take, length_push, take-append-le, take_at, take_all, length-set, get_or_append_left, get_or_push}
+use Rattle.std.proofs.lemmas.List.{get_or_past, get_or-set_same, get_or-set_other, set_past, length-take, length_push, take-append-le, take_at, take_all, get_or_append_left, get_or_push}
 use Rattle.std.proofs.lemmas.List.Sums.{sum_by_push}
 use Rattle.std.proofs.lemmas.Option.{slice_get_within, get_or_from_slice_get, slice_get-get_or}
 use Rattle.order_causal.specs.Orders.{op}
 use Rattle.order_causal.specs.Vectors.{Counts, count, list_of, IsListed}
-use Rattle.order_causal.specs.Topological.{CanGoOn, IsNext, IsWalk, AreSeen, IsTally}
+use Rattle.order_causal.specs.Topological.{CanGoOn, IsNext, IsWalk, AreSeen}
 use Rattle.order_causal.specs.Schedules.{placed, next_of}
 use Rattle.order_causal.proofs.TopologicalLaws.{placed-same}
 
@@ -31,21 +31,6 @@ placed-more schedule s t = ⊎_elim
     subst (λ (r : ℕ). placed schedule r ≤ placed (schedule ++ s ∷ []) r) (sym same) (omega arith))
     (λ (apart : t ≢ s). let more = placed-other schedule s t apart in omega arith)
     (cases_eq t s)
-
--- the counts of a schedule, with one raised
-pub tally-push : (k : ℕ) (schedule counts : List ℕ) (s : ℕ) → IsTally k schedule counts → s < k
-    → IsTally k (schedule ++ s ∷ []) (set counts s (get_or counts s 0 + 1))
-tally-push k schedule counts s tally below = record {
-  size = length-set counts s _ ∙ tally.size;
-  each = λ t. ⊎_elim
-      (λ (same : t ≡ s).
-      let inside : s < length counts = let size = tally.size in omega arith in
-      let here : get_or (set counts s (get_or counts s 0 + 1)) s 0 ≡ placed (schedule ++ s ∷ []) s =
-      get_or-set_same counts s _ 0 inside ∙ ap (λ n. n + 1) (tally.each s) ∙ sym (placed-same schedule s) in
-      subst (λ (r : ℕ). get_or (set counts s (get_or counts s 0 + 1)) r 0 ≡ placed (schedule ++ s ∷ []) r) (sym same) here)
-      (λ (apart : t ≢ s). get_or-set_other counts s t _ 0 apart ∙ tally.each t ∙ sym (placed-other schedule s t apart))
-      (cases_eq t s);
-}
 
 room-same : (n : ℕ) (limits schedule : List ℕ) (s : ℕ) → n ≤ s → room n limits (schedule ++ s ∷ []) ≡ room n limits schedule
 room-same zero limits schedule s above = refl
@@ -139,10 +124,6 @@ module _ (v : Counts) (schedule : List ℕ) (s : ℕ) (counts : List ℕ) (read 
       absurd (omega arith))
       (λ (past : length counts ≤ missing). omega arith)
       (cases_lt missing (length counts))
-
--- nothing is seen at first
-pub seen-none : (v : Counts) (schedule seen : List ℕ) → ((s : ℕ) → get_or seen s 0 ≡ 0) → AreSeen v schedule seen
-seen-none v schedule seen none s t below apart = let no = none s in absurd (omega arith)
 
 -- what is seen stays seen when an operation is placed, but for the next of its session
 pub seen-push : (v : Counts) (schedule seen : List ℕ) (s : ℕ) → AreSeen v schedule seen → AreSeen v (schedule ++ s ∷ []) (set seen s 0)

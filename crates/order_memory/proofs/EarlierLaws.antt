@@ -1,9 +1,8 @@
 -- What follows for the order of operations, and for the comparisons that it is made of.
-use Rattle.std.proofs.Common.{◌≡◌, ◌⊎◌, ℕ, ◌+◌, ◌<◌, ◌≤◌, inl, inr, ⊎_elim, true, false, arith, ap, sym, refl, ◌∙◌, eqb-true, eq-or-lt_of_le, Ordering, Less, Equal, Greater}
+use Rattle.std.proofs.Common.{◌≡◌, ◌⊎◌, ℕ, ◌+◌, ◌<◌, ◌≤◌, inl, inr, ⊎_elim, true, arith, ap, sym, refl, ◌∙◌, eqb-true, eq-or-lt_of_le, Ordering, Less, Equal, Greater}
 use Rattle.std.specs.Ordering.{nat_cmp, ordering_then, is_lt, is_eq, ordering_index}
 use Rattle.std.specs.Cmp.{IsTotalOrder, nat_cmp_total, unsigned_tied, on_total, then_total}
 use Rattle.std.proofs.lemmas.Cmp.{tied_itself}
-use Rattle.std.proofs.lemmas.Bool.{cases_lt, cases_eq}
 use Rattle.std.proofs.lemmas.Bool.Decides.{nat_tests}
 use Rattle.model_history.specs.declared.op_id.OpId.{OpId}
 use Rattle.order_causal.specs.Orders.{op, IsEarlier}
@@ -27,23 +26,6 @@ earlier_later a s i earlier = ⊎_elim
     (λ (below : a.session < s). inl below)
     (λ (same : (a.session ≡ s) × (a.index < i)). let below = same.1 in inr (same.0, omega arith))
     earlier
-
--- two operations of which neither is earlier are one
-pub neither_earlier : (a b : OpId) → ¬ IsEarlier a b → ¬ IsEarlier b a → a ≡ b
-neither_earlier a b not_before not_after = ⊎_elim
-    (λ (same : a.session ≡ b.session). same_op a b same
-    (⊎_elim
-    (λ (here : a.index ≡ b.index). here)
-    (λ (apart : a.index ≡ b.index → ⊥). ⊎_elim
-    (λ (below : a.index < b.index). absurd (not_before (inr (same, below))))
-    (λ (above : b.index ≤ a.index). absurd (not_after (inr (sym same, omega arith))))
-    (cases_lt a.index b.index))
-    (cases_eq a.index b.index)))
-    (λ (apart : a.session ≡ b.session → ⊥). ⊎_elim
-    (λ (below : a.session < b.session). absurd (not_before (inl below)))
-    (λ (above : b.session ≤ a.session). absurd (not_after (inl (omega arith))))
-    (cases_lt a.session b.session))
-    (cases_eq a.session b.session)
 
 pub by_op_total : IsTotalOrder by_op
 by_op_total = then_total (on_total (λ o. o.session) nat_cmp_total) (on_total (λ o. o.index) nat_cmp_total)
@@ -90,10 +72,6 @@ less-earlier a b less = ⊎_elim
     (λ (is : (nat_cmp a.session b.session ≡ Equal) × (is_lt (nat_cmp a.index b.index) ≡ true)).
     inr (cmp-equal a.session b.session is.0, cmp-less a.index b.index (is_less _ is.1)))
     (then-cases (nat_cmp a.session b.session) (nat_cmp a.index b.index) less)
-
--- no operation is less than itself
-pub by_op-itself : (a : OpId) → is_lt (by_op a a) ≡ false
-by_op-itself a = ap is_lt (tied_itself by_op_total a)
 
 -- what is compared as no greater than what is less is less
 pub less-index : (o p : Ordering) → ordering_index o ≤ ordering_index p → is_lt p ≡ true → is_lt o ≡ true

@@ -186,12 +186,3 @@ module _ (h : MemoryHistory) (sessions : List ℕ) where
           let found = (now.each r is_op).some n same in
           (found.0, found.1, found.2, found.3, (λ b missed_b. found.4 b (missed-among r b missed_b) missed_b), straight);
     }
-
--- where the causal order has a cycle, nothing is noted
-pub noted-cyclic : (h : MemoryHistory) → IsCyclic h → (missed : List ℕ) → length missed ≡ many h
-    → ((n : ℕ) → slice_index_or missed n 0 ≡ 0) → AreLatestMissed h missed
-noted-cyclic h cyclic missed size none = record {
-  size = size;
-  none = λ straight. absurd (straight cyclic);
-  some = λ r is_op n same. let empty = none (number h r) in absurd (omega arith);
-}

@@ -4,7 +4,7 @@ use Rattle.std.specs.Prelude.{Bool, true, false, length, Some, slice_get, slice_
 use Rattle.std.specs.List.{filter}
 use Rattle.std.proofs.Common.{arith, refl, ap, sym, ◌∙◌, subst, inl, inr, ⊎_elim, take_all, length-append}
 use Rattle.std.proofs.lemmas.Bool.{cases_eq, eq-eqb, ne_eqb}
-use Rattle.std.proofs.lemmas.List.{append-nil, length-take, length_push, take-append-le}
+use Rattle.std.proofs.lemmas.List.{append-nil, length-take, length_push}
 use Rattle.std.proofs.lemmas.List.Elements.{filter-append}
 use Rattle.std.proofs.lemmas.List.Sums.{count_by-le-length, length-filter}
 use Rattle.std.proofs.lemmas.Option.{same_Some, slice_get-get_or, slice_get_within}
@@ -64,13 +64,6 @@ taken-more most all listed f room same =
     let whole : take most all ≡ all = take_all most all (omega arith) in
     let long = length_push all f in
     ap (λ (xs : List Fault). xs ++ f ∷ []) (same ∙ whole) ∙ sym (take_all most (all ++ f ∷ []) (omega arith))
-
-pub taken-full : (most : ℕ) (all listed : List Fault) (f : Fault) → most ≤ length listed → listed ≡ take most all
-    → listed ≡ take most (all ++ f ∷ [])
-taken-full most all listed f full same =
-    let size : length listed ≡ length (take most all) = ap length same in
-    let short = length-take most all in
-    same ∙ sym (take-append-le most all (f ∷ []) (omega arith))
 
 module _ (all : List Fault) (f : Fault) where
   abbrev s : ℕ

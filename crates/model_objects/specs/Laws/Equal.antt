@@ -5,10 +5,6 @@ use Rattle.std.specs.Bool.{beq}
 use Rattle.std.proofs.Common.{eq-eqb, ap, sym, ◌∙◌}
 use Rattle.std.proofs.lemmas.Bool.{eqb-true}
 
--- two different values, and a test that says so
-pub different : {A : Type 0} (a b : A) → (a ≡ b → false ≡ true) → (false ≡ true → a ≡ b) × (a ≡ b → false ≡ true)
-different a b apart = ((λ (e : false ≡ true). absurd cc), apart)
-
 -- one value, and a test that says so
 pub alike : {A : Type 0} (a : A) → (true ≡ true → a ≡ a) × (a ≡ a → true ≡ true)
 alike a = ((λ e. refl), λ e. refl)
@@ -24,10 +20,6 @@ same_of_part f injective decides a b = ((λ e. ap f ((decides a b).0 e)), λ e. 
 -- values of two variants, and a test that tells them apart
 pub apart : {A : Type 0} (variant : A → ℕ) (a b : A) → (variant a == variant b) ≡ false → (false ≡ true → a ≡ b) × (a ≡ b → false ≡ true)
 apart variant a b differ = ((λ (e : false ≡ true). absurd cc), λ e. sym differ ∙ eq-eqb (variant a) (variant b) (ap variant e))
-
--- the values of `()`
-pub same_units : (a b : Unit {0}) → (true ≡ true) ↔ (a ≡ b)
-same_units a b = ((λ e. refl), λ e. refl)
 
 -- values that may be absent
 pub same_options : {A : Type 0} {eq : A → A → Bool} → ((a b : A) → (eq a b ≡ true) ↔ (a ≡ b))

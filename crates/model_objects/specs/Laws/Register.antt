@@ -40,16 +40,6 @@ settled start before after other (Write v) e = refl
 settled start before after (Write u) Read e = rw (last_written-settled start before after u) refl
 settled start before after Read Read e = absurd cc
 
-pub last_written-push : (start : ℕ) (calls : List RegisterCall) (v : ℕ) → last_written start (calls ++ Write v ∷ []) ≡ v
-last_written-push start [] v = refl
-last_written-push start (Write u ∷ calls) v = last_written-push u calls v
-last_written-push start (Read ∷ calls) v = last_written-push start calls v
-
-pub last_written-read : (start : ℕ) (calls : List RegisterCall) → last_written start (calls ++ Read ∷ []) ≡ last_written start calls
-last_written-read start [] = refl
-last_written-read start (Write u ∷ calls) = last_written-read u calls
-last_written-read start (Read ∷ calls) = last_written-read start calls
-
 -- equality of calls and of returns is equality of values, by constructors
 
 pub same_writes : (u v : ℕ) → (eqb u v ≡ true → Write u ≡ Write v) × (Write u ≡ Write v → eqb u v ≡ true)

@@ -1,5 +1,5 @@
 use Rattle.std.proofs.Common.{◌∙◌, sym}
-use Rattle.model_objects.specs.Laws.Register.{last_written-push, last_written-read}
+use Rattle.model_objects.proofs.RegisterLemmas.{last_written-push, last_written-read}
 use Rattle.model_objects.proofs.register.RegisterSeqObject.apply.Goals as goal
 
 pub returns-in-Write-clause-takes_in : goal.returns-in-Write-clause-takes_in
