@@ -1,10 +1,10 @@
 #!/usr/bin/env python3
-"""The pieces of the page of `explain --html`, as crates/page has them, and pages that are joined from them.
+"""The pieces of the page of `explain --html`, as crates/show_page has them, and pages that are joined from them.
 
     python3 tests/page_parts.py --write                        # writes the hashes of the script and the style anew
     python3 tests/page_parts.py HISTORY REPORT [NAMES LINES] > PAGE  # joins a page from files, which says nothing without its script
 
-The order of the pieces is that which crates/page/src/frame.rt states at its head.
+The order of the pieces is that which crates/show_page/src/frame.rt states at its head.
 """
 
 import base64

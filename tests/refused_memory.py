@@ -8,7 +8,7 @@ its usual answer, or with status 4, `no memory` on standard error and nothing wr
 some first lines of their answer before. What `drive` writes may differ from run to run: driven.py has to find no fault in it. A refusal
 keeps its status and its first line, and its second line may be missing or hold its fixed beginning alone.
 
-The same is done with the tests below of crates/acceptance, which repeat a call where memory was refused to it. Each has to pass in
+The same is done with the tests below of crates/test_acceptance, which repeat a call where memory was refused to it. Each has to pass in
 each run, and `abandoned` has to print each answer that a refusal can lead to. `rt ci` leaves the program that has these tests; without
 it they are skipped.
 
@@ -195,7 +195,7 @@ INPUTS = (
     ("drive lamport --eager --stop 1", '["queue",[[["push",5],["pop","?"]],[["pop","?"],["push",6,"?"]]]]', '["queue",'),
 )
 
-# Tests of crates/acceptance, each with the texts that it has to print in some run.
+# Tests of crates/test_acceptance, each with the texts that it has to print in some run.
 REPEATING = (
     ("seals::a_seal_holds_what_it_is_told_and_more", ()),
     ("replicas::replicas_of_the_causal_store_answer", ()),
