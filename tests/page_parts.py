@@ -13,7 +13,7 @@ import pathlib
 import re
 import sys
 
-SOURCES = pathlib.Path(__file__).resolve().parent.parent / "crates" / "page" / "src"
+SOURCES = pathlib.Path(__file__).resolve().parent.parent / "crates" / "show_page" / "src"
 FILES = ("frame.rt", "style.rt", "script.rt", "zooming.rt", "drawing.rt", "hashes.rt")
 CONSTANT = re.compile(r'^pub const ([A-Z_]+): &str = r#"(.*?)"#;$', re.MULTILINE | re.DOTALL)
 POLICY = re.compile(r"(script-src ')[^']*(';\nstyle-src ')[^']*(')")

@@ -36,7 +36,7 @@ MOST_SECONDS = 60
 SHOWN = 3
 WORKERS = ("1", "2")
 NO_MEMORY = (4, b"", b"no memory\n")
-TESTS = pathlib.Path(__file__).resolve().parent.parent / "crates" / "acceptance" / "out" / "acceptance_tests"
+TESTS = pathlib.Path(__file__).resolve().parent.parent / "crates" / "test_acceptance" / "out" / "test_acceptance_tests"
 
 YES = "cc yes\ncm yes\nccv yes\n"
 PLAIN = '["memory",[[["w",0,1]],[["r",0,1]]]]'
