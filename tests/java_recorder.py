@@ -23,9 +23,11 @@ BEGUN_WRITE = ["begin", "alice", ["w", "x", "v"]]
 BEGUN_READ = ["begin", "alice", ["r", "x"]]
 BEGUN_DELETE = ["begin", "alice", ["d", "x"]]
 OK, FAIL, LOST = ["end", "alice", "ok"], ["fail", "alice"], ["lost", "alice"]
+READ = ["end", "alice", "v"]
 
 # The exceptions of the calls: `Refused` is certain by the recorder's rule, and of `Odd` the rule itself fails.
 HEAD = """
+import java.math.*;
 import java.nio.file.*;
 import java.util.*;
 import java.util.concurrent.*;
@@ -39,6 +41,9 @@ class Tried {
     }
     static <T> T refused() throws Exception { throw new Refused(); }
     static <T> T broken() throws Exception { throw new java.net.SocketTimeoutException(); }
+    static <T> T noNote() { throw new NoSuchElementException(); }
+    static Object nested(int depth) { return depth == 1 ? List.of() : List.of(nested(depth - 1)); }
+    static Map<String, Object> mapped(String name, Object value) { return Collections.singletonMap(name, value); }
     interface Body { void run(Recorder recorder, Recorder.Client alice, Recorder.Client bob) throws Exception; }
     static void tried(String log, Body body) throws Exception {
         try (var recorder = new Recorder(Path.of(log), Tried::isCertain)) {
@@ -106,7 +111,102 @@ CASES = {
     ),
     "half a character": ('alice.beginWrite("x", "\\uD83D");', ["IllegalArgumentException"]),
     "a value that is none": ('alice.beginWrite("x", null);', ["IllegalArgumentException"]),
+    "a line that is too long": ('alice.beginWrite("x", "v".repeat(1_000_000));', ["IllegalArgumentException"]),
+    "a read of what is too long": ('alice.read("x", () -> "v".repeat(1_000_000));', [BEGUN_READ, LOST, "IllegalArgumentException"]),
     "a closed recorder": ('alice.beginRead("x"); recorder.close(); bob.beginRead("x");', [BEGUN_READ, "UncheckedIOException"]),
+}
+
+# Those of notes, which stand last in their lines.
+CASES |= {
+    "a write with a note": ('alice.withNote("n1").write("x", "v", () -> {});', [[*BEGUN_WRITE, "n1"], OK]),
+    "a read with a note": ('alice.withNote(7).read("x", () -> null);', [[*BEGUN_READ, 7], ["end", "alice", None]]),
+    "a delete with a note": ('alice.withNote(true).delete("x", () -> false);', [[*BEGUN_DELETE, True], FAIL]),
+    "a compare-and-set with one": (
+        'alice.withNote(Map.of("server", "n1")).cas("x", "v", () -> true);',
+        [[*BEGUN_WRITE, {"server": "n1"}], OK],
+    ),
+    "a write whose end has one": ('alice.withEndNote(() -> "n1").write("x", "v", () -> {});', [BEGUN_WRITE, [*OK, "n1"]]),
+    "a read whose end has one": ('alice.withEndNote(() -> List.of("n1")).read("x", () -> "v");', [BEGUN_READ, [*READ, ["n1"]]]),
+    "a call that failed with one": ('alice.withEndNote(() -> 1).delete("x", () -> false);', [BEGUN_DELETE, [*FAIL, 1]]),
+    "a call that was lost with one": (
+        'alice.withEndNote(() -> 1).cas("x", "v", () -> broken());',
+        [BEGUN_WRITE, [*LOST, 1], "SocketTimeoutException"],
+    ),
+    "a read of a fraction with one": (
+        'alice.withEndNote(() -> 1).read("x", () -> 1.0);',
+        [BEGUN_READ, [*LOST, 1], "IllegalArgumentException"],
+    ),
+    "notes of both lines": (
+        'alice.withNote("n1").withEndNote(() -> "n2").write("x", "v", () -> {}); alice.delete("x", () -> true);',
+        [[*BEGUN_WRITE, "n1"], [*OK, "n2"], BEGUN_DELETE, OK],
+    ),
+    "a function that is asked late": (
+        'var found = new ArrayList<Integer>(); alice.withEndNote(() -> found).write("x", "v", () -> found.add(7));',
+        [BEGUN_WRITE, [*OK, [7]]],
+    ),
+    "a list that grows later": (
+        'var many = new ArrayList<>(List.of(1)); var noted = alice.withNote(many); many.add(2); noted.beginRead("x");',
+        [[*BEGUN_READ, [1]]],
+    ),
+    "a callback with a note": ('alice.beginWrite("x", "v").withNote(5).end();', [BEGUN_WRITE, [*OK, 5]]),
+    "a callback of a read with one": ('alice.beginRead("x").withNote(5).end("v");', [BEGUN_READ, [*READ, 5]]),
+    "a callback that failed with one": ('alice.beginWrite("x", "v").withNote(5).fail();', [BEGUN_WRITE, [*FAIL, 5]]),
+    "a callback that was lost with one": ('alice.beginWrite("x", "v").withNote(5).lost();', [BEGUN_WRITE, [*LOST, 5]]),
+    "a note in the place of another": ('alice.withEndNote(() -> 1).beginRead("x").withNote(2).lost();', [BEGUN_READ, [*LOST, 2]]),
+    "no note": ('alice.withNote(null).withEndNote(() -> null).beginRead("x").withNote(null).lost();', [BEGUN_READ, LOST]),
+    "a note of all kinds": (
+        'var map = new TreeMap<String, Object>(); map.put("", null); map.put("\\u00e9\\"", List.of()); map.put("z", Map.of()); '
+        "alice.withNote(Arrays.asList(null, true, -1, 2L, (byte) 3, (short) 4, 1.5, 2.5f, map)).beginRead(\"x\");",
+        [[*BEGUN_READ, [None, True, -1, 2, 3, 4, 1.5, 2.5, {"": None, 'é"': [], "z": {}}]]],
+    ),
+    "numbers of all sizes": (
+        'alice.withNote(List.of(1e300, -1e300, 4.9e-324, new BigInteger("9".repeat(300)), new BigDecimal("-0.10"))).beginRead("x");',
+        [[*BEGUN_READ, [1e300, -1e300, 5e-324, int("9" * 300), -0.1]]],
+    ),
+    "a deep note": ('alice.withNote(nested(50)).beginRead("x");', [[*BEGUN_READ, json.loads("[" * 50 + "]" * 50)]]),
+    "a note in a new session": (
+        'var noted = alice.withNote(1); noted.reconnected(); alice.beginRead("x").end("v"); noted.beginDelete("x");',
+        [["begin", "alice#2", ["r", "x"]], ["end", "alice#2", "v"], ["begin", "alice#2", ["d", "x"], 1]],
+    ),
+    "two calls at once with a note": ('alice.beginRead("x"); alice.withNote(1).beginRead("y");', [BEGUN_READ, "IllegalStateException"]),
+    "a note that comes too late": (
+        'var call = alice.beginRead("x"); call.lost(); call.withNote(1).lost();',
+        [BEGUN_READ, LOST, "IllegalStateException"],
+    ),
+    "a function that throws": ('alice.withEndNote(() -> noNote()).write("x", "v", () -> {});', [BEGUN_WRITE, OK, "NoSuchElementException"]),
+    "a function that gives no note": (
+        'alice.withEndNote(() -> 0.0 / 0).read("x", () -> "v");',
+        [BEGUN_READ, READ, "IllegalArgumentException"],
+    ),
+    "a function that gives too much": (
+        'alice.withEndNote(() -> "n".repeat(1_000_000)).delete("x", () -> true);',
+        [BEGUN_DELETE, OK, "IllegalArgumentException"],
+    ),
+    "a function that throws after the call": (
+        'try { alice.withEndNote(() -> noNote()).write("x", "v", () -> broken()); } '
+        "catch (java.net.SocketTimeoutException error) { throw (Exception) error.getSuppressed()[0]; }",
+        [BEGUN_WRITE, LOST, "NoSuchElementException"],
+    ),
+    "what is no note, in a call that goes on": (
+        'var call = alice.beginRead("x"); try { call.withNote(new byte[1]); } finally { call.end("v"); }',
+        [BEGUN_READ, READ, "IllegalArgumentException"],
+    ),
+}
+
+# What is no note, alone and in others: nothing is recorded, and the store is not called.
+NO_NOTES = (
+    *("new byte[1]", "new Object()", "'c'", "Set.of(1)", "Optional.empty()", "(Object) new String[0]", "Map.of(1, 2)", "mapped(null, 1)"),
+    *("0.0 / 0", "1f / 0", "1e301", "BigInteger.TEN.pow(301)", 'new BigDecimal("-1e301")', "nested(51)"),
+    *('"\\uD83D"', '"n".repeat(1_000_000)'),
+)
+HOLDERS = ("%s", "List.of(%s)", 'Map.of("at", %s)')
+CASES |= {
+    f"no note {number}, {holder}": (
+        f'alice.withNote({HOLDERS[holder] % note}).write("x", "v", () -> {{ throw new Odd(); }});',
+        ["IllegalArgumentException"],
+    )
+    for number, note in enumerate(NO_NOTES)
+    for holder in range(len(HOLDERS))
 }
 
 # Threads that read and write a map; where it forgets, each reads what it has written, and finds nothing.

@@ -16,11 +16,9 @@ A seed gives the same calls, but threads and servers take turns as they like, so
 """
 
 import argparse
-import glob
 import os
 import pathlib
 import re
-import shutil
 import signal
 import subprocess
 import sys
@@ -30,6 +28,7 @@ from typing import NamedTuple
 
 from command_words import with_program
 from counting import counted, end
+from installed import is_installed
 
 HERE = pathlib.Path(__file__).resolve().parent
 SECONDS, JOBS, MOST_STALE_RUNS = 600, 4, 40
@@ -67,9 +66,7 @@ class Example(NamedTuple):
 
     def lacks(self):
         """Whether this machine lacks something."""
-        can_import = [self.python, "-c", f"import {self.module}"]
-        is_there = shutil.which(self.python) and subprocess.run(can_import, capture_output=True, check=False).returncode == 0
-        return not (is_there and all(shutil.which(need) or glob.glob(need) for need in self.needs))
+        return not is_installed(self.python, (self.module,), self.needs)
 
 
 REDIS = Example(

@@ -99,6 +99,7 @@ PARTS = (
     Part("python_package", lambda given: given.of("python_package", *given.longer())),
     Part("java_recorder", lambda given: given.of("java_recorder"), ("java", "javac")),
     Part("live_stores", lambda given: given.of("live_stores", *given.longer())),
+    Part("driver_errors", lambda given: ["tests/driver_errors.py"], is_long=True),
     Part("cluster", lambda given: given.of("cluster", *given.longer())),
     Part("recorded_stores", lambda given: given.of("recorded_stores", given.many(1_000, 20_000))),
     Part("mangled", lambda given: given.of("mangled", "1", "--count", given.many(3_000, 200_000))),

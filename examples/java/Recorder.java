@@ -1,6 +1,7 @@
 import java.io.Closeable;
 import java.io.IOException;
 import java.io.UncheckedIOException;
+import java.math.BigDecimal;
 import java.nio.ByteBuffer;
 import java.nio.channels.FileChannel;
 import java.nio.charset.StandardCharsets;
@@ -8,11 +9,14 @@ import java.nio.file.Path;
 import java.nio.file.StandardOpenOption;
 import java.util.HashMap;
 import java.util.HashSet;
+import java.util.List;
 import java.util.Map;
 import java.util.Objects;
 import java.util.Set;
+import java.util.StringJoiner;
 import java.util.concurrent.Callable;
 import java.util.function.Predicate;
+import java.util.function.Supplier;
 
 /**
  * Records what the clients of a store call and are answered, as a log that causal_judge judges: a line before each call, and one when it
@@ -31,6 +35,9 @@ import java.util.function.Predicate;
  * that was being written. Each run has a log of its own.
  */
 public final class Recorder implements Closeable {
+    private static final int MOST_LINE = 1_000_000, MOST_DEPTH = 50;
+    private static final BigDecimal LARGEST = BigDecimal.TEN.pow(300);
+
     private final FileChannel file;
     private final Predicate<? super Throwable> fails;
     private final Set<String> names = new HashSet<>();
@@ -59,7 +66,7 @@ public final class Recorder implements Closeable {
     public synchronized void start(String key, Object value) {
         if (hasBegun)
             throw new IllegalStateException("a call has begun: what keys hold at the start comes first");
-        append("[\"start\"," + text(key) + "," + json(value) + "]");
+        append(line("\"start\"," + text(key) + "," + json(value), ""));
     }
 
     /** A client, which makes one call at a time. A name is given to one client. */
@@ -67,7 +74,7 @@ public final class Recorder implements Closeable {
         text(name);
         if (!names.add(name))
             throw new IllegalArgumentException("the run has a client " + name);
-        return new Client(name);
+        return new Client(new Name(name), "", () -> null);
     }
 
     @Override
@@ -81,28 +88,61 @@ public final class Recorder implements Closeable {
         void make() throws Exception;
     }
 
+    /** The name of a client, which changes: the first one, and the one that it has now. */
+    private static final class Name {
+        private final String first;
+        private volatile String now;
+
+        private Name(String first) {
+            this.first = this.now = first;
+        }
+    }
+
     /**
      * A client. Each method records the begin, makes the call, and records how it ended: by {@code end} where it answered, by {@code fail}
      * or {@code lost} where it threw. The exception is thrown on. A call that returns before its answer came, as by a future, is none for
      * these methods: begin it by {@link #beginWrite} and its like, and end it where the answer comes.
      */
     public final class Client {
-        private final String first;
-        private volatile String name;
+        private final Name name;
+        private final String note;
+        private final Supplier<?> endNote;
 
-        private Client(String name) {
-            this.first = this.name = name;
+        private Client(Name name, String note, Supplier<?> endNote) {
+            this.name = name;
+            this.note = note;
+            this.endNote = endNote;
         }
 
         /** The name that it has in the log: another one after each {@link #reconnected}. */
         public String name() {
-            return name;
+            return name.now;
+        }
+
+        /**
+         * The same client, whose calls have a note in the line of their begin: the server that is asked, or a request's id. The client on
+         * which this is called stays as it is. The judge passes notes over. A note is a value of JSON: a text, a number, true or false, or a
+         * list or a map of such, which may hold null too. Null by itself is no note.
+         *
+         * @throws IllegalArgumentException where the note is no such value; nothing is recorded
+         */
+        public Client withNote(Object note) {
+            return new Client(name, noted(note), endNote);
+        }
+
+        /**
+         * The same client, whose calls have a note in the line that ends them: what is known only then, as the server that answered. The
+         * function is asked when the call ended. Where it throws, or gives no value of JSON, the end is recorded without a note, and the
+         * exception is thrown on. Where the call itself threw, that is thrown on, and the function's is added to it as a suppressed one.
+         */
+        public Client withEndNote(Supplier<?> note) {
+            return new Client(name, this.note, Objects.requireNonNull(note));
         }
 
         /** A value that nobody was given before. No two writes of a run write one value, also where one is tried again. */
         public String newValue() {
             synchronized (Recorder.this) {
-                return first + "." + ++values;
+                return name.first + "." + ++values;
             }
         }
 
@@ -113,9 +153,9 @@ public final class Recorder implements Closeable {
         public void reconnected() {
             synchronized (Recorder.this) {
                 int number = 2;
-                while (!names.add(first + "#" + number))
+                while (!names.add(name.first + "#" + number))
                     number++;
-                name = first + "#" + number;
+                name.now = name.first + "#" + number;
             }
         }
 
@@ -150,17 +190,17 @@ public final class Recorder implements Closeable {
 
         /** A write that begins now, and ends when the answer came, as in a callback. */
         public Call beginWrite(String key, Object value) {
-            return new Call(name, "[\"w\"," + text(key) + "," + json(value) + "]", false);
+            return new Call(this, "[\"w\"," + text(key) + "," + json(value) + "]", false);
         }
 
         /** A read that begins now. */
         public Call beginRead(String key) {
-            return new Call(name, "[\"r\"," + text(key) + "]", true);
+            return new Call(this, "[\"r\"," + text(key) + "]", true);
         }
 
         /** A delete that begins now. */
         public Call beginDelete(String key) {
-            return new Call(name, "[\"d\"," + text(key) + "]", false);
+            return new Call(this, "[\"d\"," + text(key) + "]", false);
         }
 
         private boolean made(Call change, Callable<Boolean> call) throws Exception {
@@ -186,48 +226,63 @@ public final class Recorder implements Closeable {
     public final class Call {
         private final String name;
         private final boolean isRead;
+        private volatile Supplier<?> endNote;
 
-        private Call(String name, String call, boolean isRead) {
-            this.name = name;
+        private Call(Client client, String call, boolean isRead) {
+            this.name = client.name();
             this.isRead = isRead;
+            this.endNote = client.endNote;
+            String line = line("\"begin\"," + text(name) + "," + call, client.note);
             synchronized (Recorder.this) {
                 if (pending.containsKey(name))
                     throw new IllegalStateException("the client " + name + " has a call pending: it makes one at a time");
-                append("[\"begin\"," + text(name) + "," + call + "]");
+                append(line);
                 pending.put(name, this);
                 hasBegun = true;
             }
+        }
+
+        /**
+         * This call, which now has a note for the line that ends it, in the place of the one that {@link Client#withEndNote} gives.
+         *
+         * @throws IllegalArgumentException where the note is no value of JSON; nothing is recorded, and the call goes on
+         */
+        public Call withNote(Object note) {
+            noted(note);
+            endNote = () -> note;
+            return this;
         }
 
         /** The write or the delete was answered. */
         public void end() {
             if (isRead)
                 throw new IllegalStateException("a read ends with what it found");
-            ended("[\"end\"," + text(name) + ",\"ok\"]");
+            ended("\"end\"," + text(name) + ",\"ok\"", null);
         }
 
         /** The read was answered: by a value, or by null where it found nothing. One that found what is no value is recorded as lost. */
         public void end(Object found) {
             if (!isRead)
                 throw new IllegalStateException("only a read ends with a value");
-            String value;
+            String event;
             try {
-                value = found == null ? "null" : json(found);
+                event = "\"end\"," + text(name) + "," + (found == null ? "null" : json(found));
+                line(event, "");
             } catch (IllegalArgumentException error) {
-                lost();
+                lost(error);
                 throw error;
             }
-            ended("[\"end\"," + text(name) + "," + value + "]");
+            ended(event, null);
         }
 
         /** The call had no effect, for certain. */
         public void fail() {
-            ended("[\"fail\"," + text(name) + "]");
+            fail(null);
         }
 
         /** No answer came, as after a time-out or where the connection broke: the call may take effect later, or never. */
         public void lost() {
-            ended("[\"lost\"," + text(name) + "]");
+            lost(null);
         }
 
         /** The call ended by an exception: it failed where the recorder's rule says so, and else it is lost. */
@@ -237,29 +292,59 @@ public final class Recorder implements Closeable {
                 isCertain = fails.test(error);
             } finally {
                 if (isCertain)
-                    fail();
+                    fail(error);
                 else
-                    lost();
+                    lost(error);
             }
         }
 
-        private void ended(String event) {
+        private void fail(Throwable error) {
+            ended("\"fail\"," + text(name), error);
+        }
+
+        private void lost(Throwable error) {
+            ended("\"lost\"," + text(name), error);
+        }
+
+        /** Records the end, without a note where that can't be had. Why not is thrown, or added to the exception that ended the call. */
+        private void ended(String event, Throwable error) {
+            String line = line(event, "");
+            try {
+                line = line(event, noted(endNote.get()));
+            } catch (RuntimeException fault) {
+                if (error == null)
+                    throw fault;
+                error.addSuppressed(fault);
+            } finally {
+                finish(line);
+            }
+        }
+
+        private void finish(String line) {
             synchronized (Recorder.this) {
                 if (!pending.remove(name, this))
                     throw new IllegalStateException("the call of " + name + " has ended: a call ends once");
-                append(event);
+                append(line);
             }
         }
     }
 
+    /** The line of an event, which is what stands in its brackets, and its note. */
+    private static String line(String event, String note) {
+        String line = "[" + event + note + "]";
+        if (line.length() > MOST_LINE)
+            throw new IllegalArgumentException("a line of a log has at most 1,000,000 bytes: write a digest of the value or the note");
+        return line;
+    }
+
     /** Appends a line. After a fault the log takes no more: what it misses could be what explains a later read. */
-    private void append(String event) {
+    private void append(String line) {
         try {
             if (fault != null)
                 throw fault;
-            ByteBuffer line = ByteBuffer.wrap((event + "\n").getBytes(StandardCharsets.US_ASCII));
-            while (line.hasRemaining())
-                file.write(line);
+            ByteBuffer bytes = ByteBuffer.wrap((line + "\n").getBytes(StandardCharsets.US_ASCII));
+            while (bytes.hasRemaining())
+                file.write(bytes);
         } catch (IOException error) {
             fault = error;
             throw new UncheckedIOException("the log can't be written", error);
@@ -274,6 +359,55 @@ public final class Recorder implements Closeable {
         if (isWhole || value instanceof Boolean)
             return value.toString();
         throw new IllegalArgumentException("a value is a text, a whole number, or true or false: write " + value + " as a text");
+    }
+
+    /** The note of an event, as it stands behind the rest; none where it is null. */
+    private static String noted(Object note) {
+        return note == null ? "" : "," + part(note, MOST_DEPTH);
+    }
+
+    /** A note, or a part of one, as JSON: with lists and maps in one another that are at most so deep. */
+    private static String part(Object note, int room) {
+        if (note == null || note instanceof Boolean)
+            return String.valueOf(note);
+        if (note instanceof String)
+            return text((String) note);
+        if (note instanceof Number)
+            return number((Number) note);
+        if (!(note instanceof List || note instanceof Map))
+            throw new IllegalArgumentException("a note is a value of JSON: write the " + note.getClass().getName() + " as a text");
+        if (room == 0)
+            throw new IllegalArgumentException("lists and maps in a note are at most " + MOST_DEPTH + " deep");
+        return note instanceof List ? list((List<?>) note, room - 1) : object((Map<?, ?>) note, room - 1);
+    }
+
+    private static String list(List<?> note, int room) {
+        var found = new StringJoiner(",", "[", "]");
+        for (Object one : note)
+            found.add(part(one, room));
+        return found.toString();
+    }
+
+    private static String object(Map<?, ?> note, int room) {
+        var found = new StringJoiner(",", "{", "}");
+        for (var one : note.entrySet()) {
+            if (!(one.getKey() instanceof String))
+                throw new IllegalArgumentException("a name in a note is a text: write " + one.getKey() + " as a text");
+            found.add(text((String) one.getKey()) + ":" + part(one.getValue(), room));
+        }
+        return found.toString();
+    }
+
+    /** A number of a note as JSON. What has no decimal digits, as NaN, is none. */
+    private static String number(Number note) {
+        try {
+            var exact = new BigDecimal(note.toString());
+            if (exact.abs().compareTo(LARGEST) <= 0)
+                return exact.toString();
+        } catch (NumberFormatException noDigits) {
+            throw new IllegalArgumentException("a number in a note is a number of JSON: write " + note + " as a text", noDigits);
+        }
+        throw new IllegalArgumentException("a number in a note is from -10^300 to 10^300: write another as a text");
     }
 
     /** A text as JSON. */

@@ -94,7 +94,8 @@ public final class Clients {
         var ends = new ArrayList<Future<Void>>();
         for (String name : NAMES) {
             var own = new Random(random.nextLong());
-            Callable<Void> body = mode.equals("paused") ? () -> callAnyServer(name, own) : () -> callEachServer(name, own);
+            boolean hasOneSession = mode.equals("paused") || mode.equals("elected");
+            Callable<Void> body = hasOneSession ? () -> callAnyServer(name, own) : () -> callEachServer(name, own);
             ends.add(threads.submit(body));
         }
         threads.shutdown();

@@ -196,6 +196,20 @@ class Client(_AnyClient):
 
         return written
 
+    def compares_and_sets(
+        self, function: Callable[Concatenate[Key, Held, P], T], *, done: Done[T] = is_done
+    ) -> Callable[Concatenate[Key, Held, P], T]:
+        """A decorator: calls of `function(key, value, ..)` are compare-and-sets of this client, which write this value or nothing.
+
+        What they compare with is among the further arguments, and is not recorded. `done` is as for compare_and_set.
+        """
+
+        @functools.wraps(function)
+        def compared(key: Key, value: Held, /, *more: P.args, **named: P.kwargs) -> T:
+            return self.compare_and_set(key, value, lambda: function(key, value, *more, **named), done=done)
+
+        return compared
+
     def reads(self, function: Callable[Concatenate[Key, P], Found]) -> Callable[Concatenate[Key, P], Found]:
         """A decorator: calls of `function(key, ..)` are reads of this client, of what it returns."""
 
@@ -281,6 +295,17 @@ class AsyncClient(_AnyClient):
             return await self.write(key, value, lambda: function(key, value, *more, **named))
 
         return written
+
+    def compares_and_sets(
+        self, function: Callable[Concatenate[Key, Held, P], Awaitable[T]], *, done: Done[T] = is_done
+    ) -> Callable[Concatenate[Key, Held, P], Coroutine[Any, Any, T]]:
+        """A decorator: calls of `function(key, value, ..)` are compare-and-sets of this client, as of Client.compares_and_sets."""
+
+        @functools.wraps(function)
+        async def compared(key: Key, value: Held, /, *more: P.args, **named: P.kwargs) -> T:
+            return await self.compare_and_set(key, value, lambda: function(key, value, *more, **named), done=done)
+
+        return compared
 
     def reads(self, function: Callable[Concatenate[Key, P], Awaitable[Found]]) -> Callable[Concatenate[Key, P], Coroutine[Any, Any, Found]]:
         """A decorator: calls of `function(key, ..)` are reads of this client, of what it returns."""

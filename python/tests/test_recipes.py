@@ -86,6 +86,64 @@ class CompareAndSets(ClientCase):
         self.assertEqual([event[2] for event in events_of(self.log)[::2]], [["w", "k", f"v{number}"] for number in range(2, 7)])
         self.assertEqual([event[0] for event in self.endings()], ["end", "fail", "lost", "lost", "lost"])
 
+    def test_decorator(self):
+        """The write begins before the call. What it compares with, and what it returns, is the function's own."""
+        store = {"k": "v1"}
+
+        @self.alice.compares_and_sets
+        def swap(key, value, expected, *, notes=()):
+            """Swaps."""
+            self.assertEqual(events_of(self.log)[-1], ["begin", "alice", ["w", key, value]])
+            is_met = store.get(key) == expected
+            store.update({key: value} if is_met else {})
+            return ["written", *notes] if is_met else []
+
+        self.assertEqual((swap.__name__, swap.__doc__), ("swap", "Swaps."))
+        answers = swap("k", "v2", "v1", notes=["n1"]), swap("k", "v3", "v1"), swap("l", "v4", None)
+        self.assertEqual(answers, (["written", "n1"], [], ["written"]))
+        self.assertEqual([event[2] for event in events_of(self.log)[::2]], [["w", "k", "v2"], ["w", "k", "v3"], ["w", "l", "v4"]])
+        self.assertEqual(self.endings(), [["end", "alice", "ok"], ["fail", "alice"], ["end", "alice", "ok"]])
+
+    def test_decorator_and_done(self):
+        """Of an answer that is no truth by itself; and without `done` a call that returns nothing is lost."""
+        said = iter(("stored", "not stored", "timed out", None))
+        swap = self.alice.compares_and_sets(lambda key, value: next(said), done={"stored": True, "not stored": False}.get)
+        self.assertEqual([swap("k", number) for number in range(3)], ["stored", "not stored", "timed out"])
+        with self.assertRaisesRegex(TypeError, "return whether it wrote"):
+            self.alice.compares_and_sets(lambda key, value: next(said))("k", 3)
+        self.assertEqual([event[0] for event in self.endings()], ["end", "fail", "lost", "lost"])
+
+    def test_decorator_and_exceptions(self):
+        for error, due in ((Refused(), "fail"), (Unreachable(), "lost")):
+            with self.assertRaises(type(error)):
+                self.alice.compares_and_sets(raising(error))("k", "v2", "v1")
+            self.assertEqual(events_of(self.log)[-2:], [["begin", "alice", WRITE], [due, "alice"]])
+        with self.assertRaises(TypeError):
+            self.alice.compares_and_sets(raising(AssertionError("called")))("k", b"v2", "v1")
+        self.assertEqual(len(events_of(self.log)), 4)
+
+    def test_decorator_and_awaited(self):
+        bob = self.recorder.async_client("bob")
+
+        async def swap(key, value, expected, *, seconds=0):
+            """Swaps."""
+            await asyncio.sleep(seconds)
+            return expected
+
+        async def calls():
+            recorded, told = bob.compares_and_sets(swap), bob.compares_and_sets(swap, done={}.get)
+            self.assertEqual((recorded.__name__, recorded.__doc__), ("swap", "Swaps."))
+            answers = await recorded("k", "v2", True), await recorded("k", "v3", False), await told("k", "v4", "?")
+            self.assertEqual(answers, (True, False, "?"))
+            with self.assertRaises(TypeError):
+                await recorded("k", "v5", None)
+            with self.assertRaises(asyncio.TimeoutError):
+                await asyncio.wait_for(recorded("k", "v6", True, seconds=60), 0.01)
+
+        asyncio.run(calls())
+        self.assertEqual([event[2] for event in events_of(self.log)[::2]], [["w", "k", f"v{number}"] for number in range(2, 7)])
+        self.assertEqual([event[0] for event in self.endings()], ["end", "fail", "lost", "lost", "lost"])
+
     @needs_program
     def test_a_log_that_ends_before_the_answer(self):
         """Others read what the call wrote. As a read and a write that follow the answer, it is a value that nobody wrote."""
