@@ -137,19 +137,19 @@ fn table_finds_its_keys(rt: HostRuntime) -> Result<(), Fail> {
     expect_text(text_of_table(rt.alloc()), wanted)
 }
 
-/// Whether a copy of a start is equal to it, and whether it is equal to the plain start; and how many entries it has.
+/// The entries of a copy of a start, and those of the plain start.
 fn text_of_copy(alloc: Global) -> Result<String, AllocError> {
     let start = two_initial_values(alloc)?;
     let copy = Memory::copy_start(alloc, &start)?;
-    let is_equal = copy == start;
-    let is_plain = copy == Memory::plain(alloc)?;
-    let len = copy.len();
-    format!(in alloc; "{is_equal} {is_plain} {len}")
+    let plain = Memory::plain(alloc)?;
+    let entries = copy.entries();
+    let none = plain.entries();
+    format!(in alloc; "{entries:?} {none:?}")
 }
 
 #[test]
-fn copied_start_is_equal(rt: HostRuntime) -> Result<(), Fail> {
-    expect_text(text_of_copy(rt.alloc()), "true false 2")
+fn copied_start_has_the_entries(rt: HostRuntime) -> Result<(), Fail> {
+    expect_text(text_of_copy(rt.alloc()), "[(2, 5), (9, 7)] []")
 }
 
 /// The entries of the starts for a read at 9 and for one at 3.
