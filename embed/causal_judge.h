@@ -103,7 +103,8 @@ uint8_t causal_judge_check(const uint8_t *input, size_t input_bytes,
 /*
  * Says why each criterion is met or not by the history in the input, or why
  * that is unknown: `causal_judge explain --json`. The answer is one line of
- * JSON, which may be long.
+ * JSON, which may be long: a list of three entries, each of which has three
+ * or four elements.
  */
 uint8_t causal_judge_explain(const uint8_t *input, size_t input_bytes,
                              uint8_t *answer, size_t answer_bytes,

@@ -5,7 +5,7 @@
 
 - LOGS random logs (random_logs.py), whose clients fail, are lost, delete and stop, in any spelling, with blank lines and torn ends, and many
   with a line that is refused. Of each, `judge --long --events` and `events` have to write what plain_events.py says, with its status, its
-  refusal and the number of the line; and so does, in turn, one of these: `events --names`; `judge .. --every N`, cut by cut; `explain ..
+  refusal and the number of the line; and so does, in turn, one of these: `events --names` and `--notes`; `judge .. --every N`, cut by cut; `explain ..
   --json`, whose patterns are in the history by patterns.py; and `explain` in words, as a picture by pictures.py, and by `--all N`, whose
   lines are those of `judge`, and which no name in the log disturbs.
 - Each refusal, each kind of a `no`, forks, reads that ask nothing, torn ends, starts, and a cut that is a `no` where the whole is a `yes`
@@ -67,6 +67,14 @@ def outcome(program, words, data):
     except subprocess.TimeoutExpired:
         return f"no end within {SECONDS} seconds", "", ""
     return done.returncode, done.stdout.decode(errors="replace"), done.stderr.decode(errors="replace")
+
+
+def outcome_of_file(program, words, data):
+    """The same, where a file has the input."""
+    with tempfile.NamedTemporaryFile(prefix="events-", suffix=".jsonl") as file:
+        file.write(data)
+        file.flush()
+        return outcome(program, [*words, file.name], b"")
 
 
 def errors_faults(found, errors):
@@ -146,29 +154,41 @@ def names_faults(program, data, found, *_):
     due = plain_events.names_of(found)
     if not found.refusal and (plain_of(written) != json.dumps(due) or not is_harmless(written) or written.count("\n") != 1):
         wrong.append(f"events --names: {written!r}, due {due}")
+    return wrong + list_faults(program, data, found)
+
+
+def list_faults(program, data, found):
+    """What is wrong with the list of notes."""
+    written, wrong = answer(program, ["events", "--notes"], data, found)
+    due = plain_events.noted_lines(data, found)
+    is_compact = not re.search(r"\s", QUOTED.sub("", written[:-1])) and written.endswith("\n") and is_harmless(written)
+    if not found.refusal and not (is_compact and written.count("\n") == 1 and json.loads(written) == due):
+        wrong.append(f"events --notes: {written!r}, due {due}")
     return wrong
 
 
 def cut_lines_due(program, found, every, expected):
-    """The lines that are due to the cuts, the status, and whether the log was read to its end, or to the line that is refused: after a cut
-    that has so many events as were asked for, the log may go on."""
-    written = ""
+    """The lines that are due to the cuts, the status, how many events were judged, and whether the log was read to its end, or to the line
+    that is refused: after a cut that has so many events as were asked for, the log may go on."""
+    written, many = "", 0
     for many in cuts_of(found, every):
         lines = lines_due(program, found.events[:many])
         written += f"{many} {joined(lines)}\n"
         if status := status_due(lines, expected):
-            return written, status, many % every > 0
-    return written, int(found.refusal is not None), True
+            return written, status, many, many % every > 0
+    return written, int(found.refusal is not None), many, True
 
 
 def cuts_faults(program, data, found, lines, rng, seen):
-    """What is wrong with the lines of the cuts."""
+    """What is wrong with the lines of the cuts, of a log on standard input or in a file, which is read on after the last cut."""
     every, (expected, words) = rng.choice((1, 2, 3, 5, 8, 1_000)), expectation(rng)
     words = [*JUDGE, *rng.sample((["--every", str(every)], words), 2)]
     words = sum((part if type(part) is list else [part] for part in words), [])
-    written, status, is_whole = cut_lines_due(program, found, every, expected)
-    ended, text, errors = outcome(program, words, data)
-    hint = EXPLAINED_CUT if status == 5 else ""
+    written, status, judged, is_whole = cut_lines_due(program, found, every, expected)
+    is_file = rng.random() < 0.5
+    ended, text, errors = outcome_of_file(program, words, data) if is_file else outcome(program, words, data)
+    late = plain_events.late_line(found, None if is_file or is_whole else judged, every, judged) if status != 1 else ""
+    hint = (EXPLAINED_CUT if status == 5 else "") + late
     wrong = [] if errors.startswith(hint) else [f"on standard error {errors!r}, due {hint!r}"]
     rest = errors.removeprefix(hint)
     wrong += errors_faults(found, rest) if is_whole else [f"{rest!r} after the end"] * bool(rest)
@@ -176,6 +196,8 @@ def cuts_faults(program, data, found, lines, rng, seen):
         wrong.append(f"status {ended} and {text!r}, due {status} and {written!r}")
     seen["a cut that is a no, and the whole a yes"] += " no " in written and " no " not in written.rstrip("\n").split("\n")[-1]
     seen["a run that ends before its log"] += not is_whole
+    seen["a late write"] += bool(late)
+    seen["a late write after the last cut"] += bool(late) and not is_whole
     return [f"{' '.join(words)}: {fault}" for fault in wrong]
 
 
@@ -189,7 +211,7 @@ def explained_faults(program, data, found, lines, rng, seen):
     reasons = json.loads(plain_of(written) or "[]")
     if [reason[:2] for reason in reasons] != [line[:2] for line in due]:
         return [*wrong, f"explain --json: {written!r}, due {lines!r}"]
-    for (criterion, word, shown), line in zip(reasons, due):
+    for (criterion, word, shown, *_), line in zip(reasons, due):
         if word == "no" and type(shown) is not str:
             seen[f"pattern of {shown[0]}"] += 1
             if not (is_pattern(shown) and shows(known, criterion, shown) and shown[0] == line[2]):
@@ -299,7 +321,7 @@ def never_seen(seen, logs):
     named += [f"{criterion} yes" for criterion in CRITERIA] + ["refused 1", "refused 9", "refused 30"]
     named += [f"a call that ends as {ending}" for ending in ("open", "ok", "got", "nothing", "failed", "lost")]
     named += ["a fork", "a read that asks nothing", "a start", "a torn end", "a run that ends before its log", "a note that is shown"]
-    named += ["a cut that is a no, and the whole a yes"]
+    named += ["a cut that is a no, and the whole a yes", "a late write", "a late write after the last cut"]
     for what in named if logs >= 1_000 else ():
         yield [] if seen[what] else [f"never seen: {what}"]
 

@@ -4,7 +4,9 @@
     python3 tests/explained.py SEED COUNT -- PROGRAM
 
 Each history is small, of a memory, and read at random: most of its values are there, and some patterns too. `explain --json` has
-to say of each criterion what `judge` says, and `refute` has to accept each pattern that it shows. `explain --json --certificates`
+to say of each criterion what `judge` says, and `refute` has to accept each pattern that it shows. Beside a pattern stands the guarantee
+that its stale read breaks, by plain_remarks.py; and beside an unknown, without which variables `judge` says no, and by which kind, exactly
+where it does. `explain --json --certificates`
 has to say the same, with a certificate in the place of each `null` of a yes, and `check` has to say yes of each. The words of
 `explain` have to have the lines of `judge` among them, and `judge` has to say `no` of each core that stands there, of the same
 criterion: behind a `no`, and behind an `unknown` where variables were left out.
@@ -20,6 +22,8 @@ import sys
 from collections import Counter
 
 import pictures
+import plain_remarks
+import reading
 from counting import end
 
 CRITERIA = ("cc", "cm", "ccv")
@@ -56,7 +60,7 @@ def said(program, words, value):
 
 def line_of(reason):
     """The line of `judge` for a reason, but for the kind of a pattern that is not written out."""
-    criterion, word, shown = reason
+    criterion, word, shown, *_ = reason
     if word == "no":
         return f"{criterion} no {shown if isinstance(shown, str) else shown[0]}"
     return f"{criterion} {word}" + ("" if shown is None else f" {shown[0]}.{shown[1]}")
@@ -71,6 +75,19 @@ def has_idle_line(pattern):
     return not needed.issuperset(range(len(lines) - 1))
 
 
+def remark_faults(program, form, reasons, accepted):
+    """What is wrong with what stands beside what shows the findings on a memory."""
+    start, sessions = reading.read_long(json.dumps(form).encode())
+    repeated, found = plain_remarks.repeated_variables(start, sessions), []
+    rest = said(program, ["judge"], plain_remarks.without(form, repeated))[1] if repeated else ""
+    for criterion, word, shown, *beside in reasons:
+        due = plain_remarks.on_pattern(shown) if word == "no" else plain_remarks.on_unknown(criterion, repeated, rest) if word == "unknown" else []
+        accepted[f"{criterion} {word} with {due[0] if word == 'no' else 'variables left out'}"] += bool(due)
+        if beside != due:
+            found.append(f"beside {shown!r} of {criterion} stands {beside!r}, due {due!r}")
+    return found
+
+
 def pattern_faults(program, form, lines, accepted):
     """What is wrong with the reasons on a history, and what they are."""
     status, text = said(program, ["explain", "--json"], form)
@@ -80,7 +97,8 @@ def pattern_faults(program, form, lines, accepted):
     found = []
     if [line_of(reason) for reason in reasons] != lines.splitlines() or [reason[0] for reason in reasons] != list(CRITERIA):
         found.append(f"judge says {lines!r}, and explain {text!r}")
-    for criterion, word, shown in reasons:
+    found += remark_faults(program, form, reasons, accepted)
+    for criterion, word, shown, *_ in reasons:
         if word == "no" and not isinstance(shown, str):
             claim = [form, criterion, shown]
             if said(program, ["refute"], claim) != (0, f"{criterion} no {shown[0]}\n"):
@@ -99,10 +117,10 @@ def certificate_faults(program, form, reasons, accepted):
     if status != 0:
         return [f"status {status} of explain --json --certificates"]
     found, certified = [], json.loads(text)
-    bare = [[criterion, word, None if word == "yes" else shown] for criterion, word, shown in certified]
+    bare = [[criterion, word, None if word == "yes" else shown, *beside] for criterion, word, shown, *beside in certified]
     if bare != reasons:
         found.append(f"explain says {reasons!r}, and with certificates {certified!r}")
-    for criterion, word, shown in certified:
+    for criterion, word, shown, *_ in certified:
         if word == "yes":
             if shown is None:
                 found.append(f"no certificate for {criterion}")

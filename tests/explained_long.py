@@ -12,7 +12,7 @@ faults of planted.py, and many are beyond the limits of `judge`.
   same, and `judge` says the same line of the core. Of a history within the limits of `judge`, what stands below a `no` and an `unknown`
   is what `explain` writes there, in which a core has no places.
 - `--json`: the same answers. Each pattern shows its kind by patterns.py, and `refute --long` accepts it, as does `refute` where the
-  history is within its limits.
+  history is within its limits. Beside it stands the guarantee that its stale read breaks, by plain_remarks.py.
 - `--svg`: one picture, with all that pictures.py asks of it.
 - Mangled patterns: with a number changed, an operation that is out of range, or another criterion. `refute --long` accepts those that
   show something by patterns.py, and refuses the others.
@@ -26,6 +26,7 @@ import json
 import re
 
 import pictures
+import plain_remarks
 import random_memories
 import reading
 from explained import core_in, line_of, repeated_reasons, said, sections
@@ -217,7 +218,9 @@ def pattern_faults(program, whole, rng, seen):
     found, reasons = [], json.loads(text)
     if [line_of(reason) for reason in reasons] != whole.lines:
         found.append(f"judge says {whole.lines!r}, and --json {text!r}")
-    for criterion, word, shown in reasons:
+    for criterion, word, shown, *beside in reasons:
+        if word == "no" and beside != plain_remarks.on_pattern(shown):
+            found.append(f"beside {json.dumps(shown)} of {criterion} stands {beside!r}")
         if word != "no" or type(shown) is str:
             seen[f"{word} with " + ("a kind alone" if word == "no" else json.dumps(shown))] += 1
             continue

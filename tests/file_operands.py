@@ -4,7 +4,8 @@
     python3 tests/file_operands.py -- PROGRAM
 
 It tries one file and several, the form that is found of each, standard input as `-`, pipes, files that are not there, folders, answers that
-go to a file, colours, and how much a run asks. The last line is `N passed, M failed`, and the status is 1 where something failed.
+go to a file, writes that begin too late in a log, colours, and how much a run asks. The last line is `N passed, M failed`, and the status
+is 1 where something failed.
 """
 
 import argparse
@@ -22,12 +23,17 @@ MET = "cc yes\ncm yes\nccv yes\n"
 STALE = "cc no WriteCOInitRead\ncm no WriteCOInitRead\nccv no WriteCOInitRead\n"
 LOG = b'["begin","a",["w","x",1]]\n["end","a","ok"]\n["begin","b",["r","x"]]\n["end","b",1]\n'
 STALE_LOG = b'["begin","a",["w","x",1]]\n["end","a","ok"]\n["begin","a",["r","x"]]\n["end","a",null]\n'
+LATE_LOG = b'["begin","b",["r","x"]]\n["end","b",2]\n["begin","a",["w","x",2]]\n["end","a","ok"]\n'
 STALE_MEMORY = b'["memory",[[["w",0,1],["r",0,0]]]]'
 MANY_SESSIONS = b'["memory",[' + b",".join(b'[["w",%d,1]]' % session for session in range(20)) + b"]]"
 COUNTER = b'["counter",[[["inc"],["get",1]]]]'
 FILES = {
     "log.jsonl": LOG,
     "stale.jsonl": STALE_LOG,
+    "late.jsonl": LATE_LOG,
+    "late_refused.jsonl": LATE_LOG + b'["end","a","ok"]\n' + LATE_LOG.replace(b"2", b"3"),
+    "refused_late.jsonl": LATE_LOG.replace(b'["begin","a"', b'["end","a","ok"]\n["begin","a"'),
+    "late_torn.jsonl": LATE_LOG + b'["begin","a"',
     "spaced.jsonl": b' \n\t[ "begin" , "a",["w","x",1]]\n["end","a","ok"]\n',
     "started.jsonl": b'["start","x",7]\n' + LOG,
     "memory.json": b'["memory",[[["w",0,1]]]]',
@@ -158,6 +164,36 @@ def cases_of_pipes(runs):
         writer.join()
 
 
+def cases_of_late_writes(runs):
+    """A log in a file is read on after the judging ended, to find a write that begins too late; what is refused there is passed over."""
+    ended = "2 cc no ThinAirRead; cm no ThinAirRead; ccv no ThinAirRead\n"
+    hint = "the last line begins with a number of events: head -n NUMBER FILE | causal_judge explain - says why\n"
+    late = "line 1 reads a value whose write begins on line 3: this log is not in the order of time\n"
+    words = ("judge", "--every", "2", "--expect", "cc")
+    for name in ("late.jsonl", "late_refused.jsonl", "late_torn.jsonl"):
+        yield f"{name} is read on", runs.said(*words, name) == (5, ended, hint + late)
+    yield "the write comes after a refused line", runs.said(*words, "refused_late.jsonl") == (5, ended, hint)
+    yield "standard input is not read on", runs.said(*words, "-", given=LATE_LOG) == (5, ended, hint)
+    status, output, errors = runs.said(*words, "late.jsonl", "log.jsonl")
+    yield "late among several", (status, errors) == (5, labelled("late.jsonl", hint + late)) and output.startswith(labelled("late.jsonl", ended))
+    path = runs.folder / "growing"
+    os.mkfifo(path)
+    is_over = threading.Event()
+
+    def grow():
+        """Writes a log, and leaves it open until the judge has ended."""
+        with path.open("wb") as log:
+            log.write(LATE_LOG)
+            log.flush()
+            is_over.wait(60)
+
+    writer = threading.Thread(target=grow)
+    writer.start()
+    yield "a pipe is not read on", runs.said(*words, "growing") == (5, ended, hint) and not is_over.is_set()
+    is_over.set()
+    writer.join()
+
+
 def cases_of_colors(runs):
     """The words of answers are coloured where that is asked for."""
     red, green = "\x1b[31mno\x1b[0m", "\x1b[32myes\x1b[0m"
@@ -192,13 +228,16 @@ def cases_of_counts(runs):
     yield "no number", runs.said("judge", "--at-least-reads", "0", "log.jsonl")[0] == 2
 
 
+PARTS = (cases_of_forms, cases_of_refusals, cases_of_several, cases_of_answers, cases_of_pipes, cases_of_late_writes, cases_of_colors, cases_of_counts)
+
+
 def cases(program, folder):
     """A name and an outcome for each case."""
     for name, text in FILES.items():
         (folder / name).write_bytes(text)
     (folder / "folder").mkdir()
     runs = Runs(program, folder)
-    for part in (cases_of_forms, cases_of_refusals, cases_of_several, cases_of_answers, cases_of_pipes, cases_of_colors, cases_of_counts):
+    for part in PARTS:
         yield from part(runs)
 
 

@@ -10,10 +10,11 @@ a write that came to its session by some links, or a log of events (random_logs.
 - The words of `explain`, with `--long` and, where the history is within its limits, without: each stale read is followed by the line
   `This breaks ..`, and nothing else is. The guarantee is that of the steps that the words show, from the missed write to the read. Where steps
   are left out, any guarantee may be named.
+- `explain --json`: beside each pattern of a stale read, and beside no other, stands the guarantee of its path.
 - The list of `explain --all`, as JSON and in words: each stale read has the first guarantee by which the missed write was due, which is
   searched for in the whole history, and each guarantee is counted.
 
-Each guarantee has to be named in words and in lists, and a lost write has to be on the way of some. It prints a line for each input with a
+Each guarantee has to be named in words, as JSON and in lists, and a lost write has to be on the way of some. It prints a line for each input with a
 fault, and how often each guarantee came.
 """
 
@@ -25,12 +26,13 @@ from collections import Counter
 import listed_faults
 import plain_events
 import plain_faults
+import plain_remarks
 import random_logs
 import reading
 from patterns import MemoryHistory
+from plain_remarks import GUARANTEES, is_later, of_steps
 from random_histories import run_random
 
-GUARANTEES = ("read your writes", "monotonic reads", "monotonic writes", "writes follow reads", "causal order")
 NAME = r"(?:line \d+(?: \((?:call|later)\))?|\d+\.\d+)"
 FOLLOWS = re.compile(rf"({NAME}) follows ({NAME}) in its session")
 READS_FROM = re.compile(rf"({NAME}) reads from ({NAME})")
@@ -39,12 +41,7 @@ BREAKS = re.compile(r"This breaks (.*)\.")
 COUNTED = re.compile(rf"({'|'.join(GUARANTEES)}): broken by (\d+) reads?")
 LEFT_OUT = "more steps are left out here"
 LISTED = 1000
-WAY_OF_LOST = ("a lost write on the way of words", "a lost write on the way of a list")
-
-
-def of_links(links):
-    """The guarantee of a way with so many links."""
-    return GUARANTEES[min(links, len(GUARANTEES)) - 1]
+WAY_OF_LOST = ("a lost write on the way of words", "a lost write on the way of a list", "a lost write on the way of JSON")
 
 
 def steps_of(lines):
@@ -79,7 +76,7 @@ def shown_guarantee(lines, missed, read):
     taken = way(steps_of(lines), missed, read)
     if not taken:
         return None
-    return of_links(sum(not (stays and before) for stays, before in zip(taken, (False, *taken))))
+    return of_steps(taken)
 
 
 def reasons_of(text):
@@ -136,10 +133,26 @@ class Whole:
         ways = missed[0] == read[0], missed in self.seen_before(read), is_seen_after(missed), any(map(is_seen_after, readers))
         return GUARANTEES[ways.index(True)] if True in ways else GUARANTEES[-1]
 
+    def stays(self, before, after):
+        """Whether the step from one operation to another stays with one client: within a session, or to the end of its lost write."""
+        return is_later(before, after) or after[0] >= self.clients and after[1] == 0
+
     def due_to(self, fault, place):
         """The guarantee that a listed fault breaks, if it is a stale read."""
         kind, read, *others = fault
         return None if kind == "ThinAirRead" else self.due(tuple(others[-1]), tuple(read), place)
+
+
+def remark_faults(whole, reasons, seen):
+    """What is wrong with what stands beside the patterns of an explanation as JSON."""
+    found = []
+    for criterion, word, shown, *beside in reasons:
+        due = plain_remarks.on_pattern(shown, whole.stays) if word == "no" else []
+        if word != "unknown" and beside != due:
+            found.append(f"beside {shown} of {criterion} stands {beside}, due {due}")
+        seen.update(f"{name} as JSON" for name in due)
+        seen[WAY_OF_LOST[2]] += bool(due) and due != plain_remarks.on_pattern(shown)
+    return found
 
 
 def list_faults(whole, listed, words, seen):
@@ -229,6 +242,7 @@ def faults_of(program, form, rng, seen):
     for option in options:
         for lines in reasons_of(answer(program, ["explain", *option], data)):
             found += reason_faults(lines, seen)
+        found += remark_faults(whole, json.loads(answer(program, ["explain", "--json", *option], data)), seen)
         listing = ["explain", "--all", str(LISTED), *option]
         listed = json.loads(answer(program, [*listing, "--json"], data))[1]
         found += list_faults(whole, listed, answer(program, listing, data), seen)
@@ -236,7 +250,7 @@ def faults_of(program, form, rng, seen):
 
 
 def main():
-    named = [f"{name} {where}" for name in GUARANTEES for where in ("in words", "in a list")]
+    named = [f"{name} {where}" for name in GUARANTEES for where in ("in words", "as JSON", "in a list")]
     run_random(__doc__, "guarantees", made, faults_of, [*named, *WAY_OF_LOST])
 
 

@@ -301,9 +301,11 @@ def is_right_of_cuts(order, read, found):
             return False
         if unmet := status_of(order, [answer]):
             hint = plain_events.EXPLAINED_CUT if status == unmet == 5 else ""
+            hint += plain_events.late_line(read, many, order["--every"], many)
             is_last = many == cuts[-1] and plain_events.is_said(read, errors.removeprefix(hint)) and errors.startswith(hint)
             return written.endswith(f"{line}\n") and ((status, errors) == (unmet, hint) or is_last)
-    return plain_events.is_said(read, errors) and status == int(read.refusal is not None)
+    late = "" if read.refusal else plain_events.late_line(read, None, order["--every"], len(read.events))
+    return errors.startswith(late) and plain_events.is_said(read, errors.removeprefix(late)) and status == int(read.refusal is not None)
 
 
 def is_right_of_log(order, data, found):

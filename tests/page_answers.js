@@ -1,19 +1,21 @@
 // Asks the functions of the page's script, without a page. Standard input is a JSON object: the script that touches no element, and cases, each
-// four JSON texts. What the functions give for each case is written as JSON.
+// five JSON texts. What the functions give for each case is written as JSON.
 'use strict';
 const fs = require('fs'), vm = require('vm');
 
 const WANTED = ['readHistory', 'readJson', 'nameAll', 'gatherFaults', 'stepsOf', 'wordLines', 'faultSentence', 'operationWords', 'layOut',
-  'placeRows', 'plainText', 'readLines', 'wayBetween', 'guaranteeOf', 'operationPieces', 'nameShown', 'jsonShown', 'cut'];
+  'placeRows', 'plainText', 'readLines', 'wayBetween', 'guaranteeOf', 'operationPieces', 'nameShown', 'jsonShown', 'cut', 'readNotes', 'noteWords'];
 const WIDTHS = [1180, 330], MOST_FAULTS = 40;
 
 function answersOf(made, [history, ...texts]) {
-  const [said, names, lines] = texts.map(made.readJson), run = made.readLines(made.readHistory(history), lines, names), named = made.nameAll(run, names);
+  const notes = made.readNotes(texts.pop()), [said, names, lines] = texts.map(made.readJson);
+  const run = made.readLines(made.readHistory(history), lines, names, notes), named = made.nameAll(run, names);
   const {verdicts, faults} = made.gatherFaults(run, said), place = op => op < 0 ? null : [run.session[op], op - run.base[run.session[op]]];
   const words = fault => made.wordLines(run, named, fault, made.stepsOf(run, fault)).map(line => made.plainText([line]));
   const operations = Array.from({length: Math.min(run.count, 400)}, (_, op) => made.plainText([made.operationWords(run, named, op)]));
   return {
     values: run.values.tokens.map(String), keys: run.keys.tokens.map(String), operations,
+    notes: operations.map((_, op) => made.plainText([made.noteWords(run, op)])),
     pieces: operations.map((_, op) => made.operationPieces(run, named, op)), sessions: Array.from({length: run.sessions}, (_, s) => named.session(s)),
     verdicts: verdicts.map(({criterion, answer, fault, twin}) => ({criterion, answer, twin: twin && twin.criterion, words: fault && words(fault)})),
     faults: faults.slice(0, MOST_FAULTS).map(fault => ({kind: fault.kind, read: place(fault.read), missed: place(fault.missed),

@@ -69,7 +69,7 @@ def open_faults(window, room, page, widths):
         yield f"{name}: asked for {window.requests[1:]}", len(window.requests) == 1
         yield f"{name}: {seconds:.1f} seconds", seconds < SLOWEST
         yield f"{name}: it scrolls sideways", window.run("document.documentElement.scrollWidth") <= width
-        yield f"{name}: elements of names", window.run(STATIC) == 0 and window.run(SCRIPTS) == 5 and window.run("window.hit") is None
+        yield f"{name}: elements of names", window.run(STATIC) == 0 and window.run(SCRIPTS) == 6 and window.run("window.hit") is None
         head, due = text_of(window, "#headline"), head_of(page)
         yield f"{name}: the headline is {head!r}", (head == due) if due else head != ""
         cards = window.run(CARDS)
@@ -225,11 +225,12 @@ def used_faults(window, room, program):
 
 
 def hostile_log():
-    """A log whose clients, keys and values are markup and what cannot be seen, with reads that missed a write and one of a lost write."""
+    """A log whose clients, keys, values and notes are markup and what cannot be seen, with reads that missed a write and one of a lost
+    write."""
     events = []
     for name in HOSTILE:
-        events += [["begin", name, ["w", name, name]], ["end", name, "ok"], ["begin", name, ["r", name]], ["end", name, name]]
-        events += [["begin", name, ["r", name]], ["end", name, None]]
+        events += [["begin", name, ["w", name, name], name], ["end", name, "ok"], ["begin", name, ["r", name]], ["end", name, name, [name]]]
+        events += [["begin", name, ["r", name]], ["end", name, None, {str(name): name}]]
     events += [["begin", HOSTILE[0], ["w", "late", HOSTILE[1]]], ["lost", HOSTILE[0]]]
     events += [["begin", "late", ["r", "late"]], ["end", "late", HOSTILE[1]]]
     return "".join(json.dumps(event) + "\n" for event in events).encode()
@@ -253,11 +254,45 @@ def hostile_faults(window, room, program):
     yield "what cannot be seen is shown as an escape", not turned
     longest = window.run("Math.max(...[...document.querySelectorAll('bdi, svg text')].map(name => name.textContent.length))")
     yield f"names are cut: {longest}", longest < 300
-    yield "scripts", window.run(SCRIPTS) == 5 and window.run(STATIC) == 0 and not window.messages
+    yield "scripts", window.run(SCRIPTS) == 6 and window.run(STATIC) == 0 and not window.messages
     refused = window.run(INJECT)
     window.run("new Promise(done => setTimeout(done, 200))")
     told = f"what is put into the page is refused: {refused}, {len(window.messages)} messages"
     yield told, refused and window.run("window.hit") is None and len(window.messages) >= 3
+
+
+NOTED = [
+    ["begin", "alice", ["w", "x", 1], {"server": "n1"}], ["end", "alice", "ok", ["a < b", 17]],
+    ["begin", "alice", ["r", "x"]], ["end", "alice", None, "answered at 12:00:07"], ["begin", "bob", ["r", "x"]], ["end", "bob", 1],
+]  # fmt: skip
+
+
+def noted_faults(window, room, program):
+    """Whether the notes of a log are in the words of a fault, in the list of operations, under the run, and found by the search."""
+    page = page_inputs.page_of(program, "notes", "".join(json.dumps(event) + "\n" for event in NOTED).encode(), page_inputs.LOG)
+    window.size(WIDE, TALL)
+    window.open(write(room, "noted", page.written or page.joined()))
+    words = window.run("[...document.querySelectorAll('#word-lines li')].map(line => line.textContent)")
+    due = 'line 1: alice writes 1 to x [note of line 1: {"server":"n1"}; of line 2: ["a < b",17]]'
+    yield f"the words with notes: {words}", due in words
+    under = 'line 3: alice finds nothing at x [note of line 4: "answered at 12:00:07"]'
+    for typed, many in (("n1", 1), ("answered alice", 1), ("< 17", 1), ("server bob", 0)):
+        window.press("/")
+        window.run("document.getElementById('search').value = ''")
+        window.type(typed)
+        window.press("Enter")
+        found = text_of(window, "#operations-title")
+        yield f"the search for {typed!r}: {found}", found == f"{many} operation{'' if many == 1 else 's'} found"
+        shown = window.run("[...document.querySelectorAll('#rows tr td:last-child')].map(cell => cell.textContent)")
+        yield f"the notes in the list: {shown}", len(shown) == many and all("12:00:07" in cell or "n1" in cell for cell in shown)
+        window.run("document.activeElement.blur()")
+    window.press("/")
+    window.run("document.getElementById('search').value = ''")
+    window.type("answered")
+    window.press("Enter")
+    window.press("Enter")
+    told = text_of(window, "#under")
+    yield f"under the run: {told}", told.startswith(under)
 
 
 TIMED = """(async what => {
@@ -311,3 +346,4 @@ def faults(window, room, examples, others, program, is_long):
     yield from used_faults(window, room, program)
     yield from page_views.faults(window, room, program)
     yield from hostile_faults(window, room, program)
+    yield from noted_faults(window, room, program)

@@ -17,7 +17,7 @@ LOG = ["--long", "--events"]
 
 
 class Page(NamedTuple):
-    """A page: the four texts that it holds, the words of `explain`, what it lists and draws without its script, and the page that the
+    """A page: the five texts that it holds, the words of `explain`, what it lists and draws without its script, and the page that the
     program writes, where it has that option."""
 
     name: str
@@ -25,6 +25,7 @@ class Page(NamedTuple):
     report: str
     names: str
     lines: str
+    notes: str
     words: str
     listed: str
     picture: str
@@ -34,8 +35,8 @@ class Page(NamedTuple):
         return page_parts.joined(*self.texts(), said=(self.words, self.listed, self.picture))
 
     def texts(self):
-        """The four texts as the page holds them."""
-        return [self.history, self.report, self.names, self.lines]
+        """The five texts as the page holds them."""
+        return [self.history, self.report, self.names, self.lines, self.notes]
 
     def is_log(self):
         return self.names.strip() != "null"
@@ -48,9 +49,17 @@ def said(program, words, data):
 
 
 def lines_of(log):
-    """For each operation of the history of a log the line on which its call begins, by the plain reader."""
+    """For each operation of the history of a log the line on which its call begins, by the plain reader; with the line of its end where
+    that has a note."""
     found = plain_events.read_log(log)
-    return plain_events.text_of([[found.lines[call.place] for _, call in session] for session in plain_events.Run(found.events).origins])
+    begin_of, noted = {}, {}
+    for (word, client, *_), line in zip(found.events, found.lines):
+        if word == "begin":
+            begin_of[client] = line
+        elif word == "end" and line in found.noted:
+            noted[begin_of[client]] = line
+    lines = [[found.lines[call.place] for _, call in session] for session in plain_events.Run(found.events).origins]
+    return plain_events.text_of([[[line, noted[line]] if line in noted else line for line in session] for session in lines])
 
 
 def page_of(program, name, data, options=()):
@@ -59,12 +68,13 @@ def page_of(program, name, data, options=()):
     if status != 0:
         return None
     is_log = "--events" in options
-    history, names = (said(program, ["events", *words], data)[1] for words in ([], ["--names"])) if is_log else (data.decode(), "null")
+    written = (said(program, ["events", *words], data)[1] for words in ([], ["--names"], ["--notes"]))
+    history, names, notes = written if is_log else (data.decode(), "null", "[]")
     lines = lines_of(data) if is_log else "null"
     forms = ([], ["--all", page_parts.most_said()], ["--svg"])
     static = [said(program, ["explain", *options, *words], data)[1] for words in forms]
     status, written = said(program, ["explain", *options, "--html"], data)
-    return Page(name, history, report, names, lines, *static, None if status == USAGE else written)
+    return Page(name, history, report, names, lines, notes, *static, None if status == USAGE else written)
 
 
 def of_examples(program):

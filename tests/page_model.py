@@ -130,7 +130,7 @@ def cycle_faults(page, answer):
     """Whether the operations of each cycle are marked, and no others are."""
     start, sessions = reading.read_long(page.history.encode())
     known = MemoryHistory(sessions, start)
-    patterns = [shown for _, said, shown in json.loads(page.report)[0] if said == "no" and isinstance(shown, list)]
+    patterns = [shown for _, said, shown, *_ in json.loads(page.report)[0] if said == "no" and isinstance(shown, list)]
     due = {json.dumps(pattern): cycle_of(known, pattern[0], pattern[1:]) for pattern in patterns}
     found = [{tuple(op) for op in fault["cycle"]} for fault in answer["faults"] if fault["cycle"]]
     wanted = [cycle for cycle in due.values() if cycle]
@@ -171,7 +171,7 @@ def exact_faults():
     history = f'[ "m\\u0065mory",\n[[["w",4294967295,{HUGE}],["w",0,9007199254740993],["r",4294967295,{HUGE - 1}]]] , [[1,{HUGE - 2}]]]'
     names = f'[[{HUGE},"{HUGE}"],["a\\"{HUGE}",{HUGE - 1}],[-9223372036854775808,"-9223372036854775808",true,"true"]]'
     yes, of_log = '[[["cc","yes",null]],null]', '["memory",[[["w",0,1],["w",2,3]],[["r",0,5],["r",2,7]]]]'
-    none = ("", "", "", None)
+    none = ("[]", "", "", "", None)
     numbers, named = asked([Page("exact", history, yes, "null", "null", *none), Page("named", of_log, yes, names, "null", *none)])
     due = [str(HUGE), "9007199254740993", str(HUGE - 1), str(HUGE - 2), "0"]
     yield f"exact numbers: {numbers['values']}", numbers["values"] == due and numbers["keys"] == ["4294967295", "0", "1"]
@@ -181,9 +181,22 @@ def exact_faults():
     yield f"exact values: {named['operations']}", named["operations"] == words
 
 
+def note_faults():
+    """Whether each note stands by its call as the log has it: no number is rounded, and brackets and commas in texts part nothing."""
+    of_log, names = '["memory",[[["w",0,1],["w",2,3],["r",0,1]],[["r",0,1]]]]', '[["a","b"],["k","l"],[1,2]]'
+    texts = {1: f'{{"id":{HUGE},"id":1e999}}', 4: '"],[5,{"', 5: r'"<b>\\u003c\\\"\u0000"', 8: '[[1,2],{"a":[]}]', 9: "null"}
+    notes = "[" + ",".join(f"[{line},{text}]" for line, text in texts.items()) + "]"
+    page = Page("noted", of_log, '[[["cc","yes",null]],null]', names, "[[[1,4],5,7],[[8,9]]]", page_parts.in_script(notes), "", "", "", None)
+    found = asked([page])[0]["notes"]
+    due = [f" [note of line 1: {texts[1]}; of line 4: {texts[4]}]", f" [note of line 5: {texts[5]}]", ""]
+    due.append(f" [note of line 8: {texts[8]}; of line 9: {texts[9]}]")
+    yield f"notes: {found} and not {due}", found == due
+
+
 def faults(pages):
     """What is wrong with what the script says of pages: names, and whether each holds."""
     yield from exact_faults()
+    yield from note_faults()
     for page, answer in zip(pages, asked(pages)):
         yield from word_faults(page, answer)
         yield from number_faults(page, answer)

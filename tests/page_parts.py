@@ -2,13 +2,14 @@
 """The pieces of the page of `explain --html`, as crates/show_page has them, and pages that are joined from them.
 
     python3 tests/page_parts.py --write                        # writes the hashes of the script and the style anew
-    python3 tests/page_parts.py HISTORY REPORT [NAMES LINES] > PAGE  # joins a page from files, which says nothing without its script
+    python3 tests/page_parts.py HISTORY REPORT [NAMES LINES NOTES] > PAGE  # joins a page from files, which says nothing without its script
 
 The order of the pieces is that which crates/show_page/src/frame.rt states at its head.
 """
 
 import base64
 import hashlib
+import json
 import pathlib
 import re
 import sys
@@ -51,13 +52,22 @@ def in_markup(text):
     return text.replace("&", "&amp;").replace("<", "&lt;")
 
 
-def joined(history, report, names="null", lines="null", said=("", "", "")):
-    """A page of four JSON texts, as they are, and of what it says without its script: words, a list and a picture."""
+def more_words(report):
+    """What a page says of reads that its list lacks, by the counts of a report."""
+    tally = json.loads(report)[1]
+    more = max(0, sum(count for _, count in tally[0]) - int(most_said())) if tally else 0
+    return f": {more} more {'is' if more == 1 else 'are'} not" if more else ""
+
+
+def joined(history, report, names="null", lines="null", notes="[]", said=("", "", "")):
+    """A page of five JSON texts, as they are, and of what it says without its script: words, a list and a picture."""
     parts, (words, listed, picture) = pieces(), said
-    data = [in_script(text) for text in (history, report, names, lines)]
+    data = [in_script(text) for text in (history, report, names, lines, notes)]
     opening = parts["OPENING"] + parts["STYLE"] + parts["BODY"] + data[0]
-    middle = parts["BEFORE_REPORT"] + data[1] + parts["BEFORE_NAMES"] + data[2] + parts["BEFORE_LINES"] + data[3]
-    static = parts["BEFORE_WORDS"] + in_markup(words) + parts["BEFORE_LIST"] + in_markup(listed) + parts["BEFORE_PICTURE"] + picture
+    between = ("BEFORE_REPORT", "BEFORE_NAMES", "BEFORE_LINES", "BEFORE_NOTES")
+    middle = "".join(parts[name] + text for name, text in zip(between, data[1:]))
+    static = parts["BEFORE_WORDS"] + in_markup(words) + parts["BEFORE_MORE"] + more_words(report) + parts["BEFORE_LIST"] + in_markup(listed)
+    static += parts["BEFORE_PICTURE"] + picture
     return opening + middle + static + parts["BEFORE_SCRIPT"] + script_of(parts) + parts["ENDING"]
 
 
@@ -74,7 +84,7 @@ def write_hashes():
 def main():
     if sys.argv[1:] == ["--write"]:
         return write_hashes()
-    if len(sys.argv) not in (3, 5):
+    if len(sys.argv) not in (3, 6):
         sys.exit(__doc__)
     sys.stdout.reconfigure(encoding="utf-8", newline="")
     sys.stdout.write(joined(*(pathlib.Path(name).read_text(encoding="utf-8") for name in sys.argv[1:])))

@@ -3,6 +3,7 @@
 import contextlib
 import functools
 import http.server
+import re
 import threading
 from html.parser import HTMLParser
 
@@ -21,7 +22,7 @@ class Shown(HTMLParser):
     def __init__(self, text):
         super().__init__(convert_charrefs=True)
         self.open, self.ids, self.elements, self.attributes = [], [], set(), set()
-        self.outside, self.texts = "", []
+        self.outside, self.texts, self.around = "", [], ""
         self.feed(text)
         self.close()
 
@@ -52,10 +53,23 @@ class Shown(HTMLParser):
             self.outside += data
         elif self.open[-1][0] == "pre":
             self.texts[-1] += data
+        else:
+            self.around += data
 
     def is_said(self):
         """Whether the place is in the element that is seen without a script."""
         return any(name == "said" for _, name, _ in self.open)
+
+
+MORE = re.compile(r"listed here(?:: (\d+) more (?:is|are) not)?\. The counts")
+COUNTED = re.compile(r"^  \w+: ([\d,]+) reads? in ", re.MULTILINE)
+
+
+def more_faults(name, page, shown):
+    """Whether the page says how many reads its list lacks, by the counts of the list and its lines."""
+    told, counted = MORE.search(shown.around), sum(int(count) for count in COUNTED.findall(page.listed))
+    due = max(0, counted - int(page_parts.most_said()))
+    yield f"{name}: {due} reads more than are listed", bool(told) and int(told[1] or 0) == due
 
 
 def static_faults(page):
@@ -69,6 +83,7 @@ def static_faults(page):
     yield f"{name}: attributes {handlers}", not handlers
     yield f"{name}: what is seen besides, {shown.outside.strip()!r}", not shown.outside.strip()
     yield f"{name}: each id once", len(shown.ids) == len(set(shown.ids))
+    yield from more_faults(name, page, shown)
     lines = [line for line in page.words.splitlines() if line[:1].strip()]
     yield f"{name}: three lines", [line.split()[0] for line in lines] == ["cc", "cm", "ccv"]
 
@@ -76,7 +91,7 @@ def static_faults(page):
 def faults(pages):
     """What is wrong with pages that the program wrote, without their scripts: names, and whether each holds."""
     most = page_parts.most_said()
-    yield f"the page says that it lists {most} reads at most", f"At most {most} of them" in page_parts.pieces()["BEFORE_LIST"]
+    yield f"the page says that it lists {most} reads at most", f"At most {most} of them" in page_parts.pieces()["BEFORE_MORE"]
     for page in pages:
         if page.written is not None:
             yield from static_faults(page)

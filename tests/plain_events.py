@@ -1,10 +1,10 @@
 #!/usr/bin/env python3
 """Reads a log of events in a plain way, and gives the history that it stands for.
 
-    python3 tests/plain_events.py [--names | --judge] < LOG
+    python3 tests/plain_events.py [--names | --notes | --judge] < LOG
 
-It writes the line of `causal_judge events`, or that of `events --names`, or the three lines of `judge --long --events`; and on standard error
-the first line of a refusal, with status 1, or that the last line is not whole.
+It writes the line of `causal_judge events`, of `events --names` or of `events --notes`, or the three lines of `judge --long --events`; and on
+standard error the first line of a refusal, with status 1, or that the last line is not whole.
 
 It knows nothing of the program, and follows docs/events.md. The lines of a history are those of plain_long_judge.py, which knows none where
 values are not distinct and the history is within the limits of `judge`.
@@ -26,6 +26,7 @@ MOST_LINE = 1_000_000
 BLANKS = b" \t\r"
 NOT_JSON, TOO_LONG, NOT_ALLOWED = 1, 9, 30
 NOT_WHOLE = "last line is not whole: passed over\n"
+LATE = "line {} reads a value whose write begins on line {}: this log is not in the order of time\n"
 EXPLAINED_CUT = "the last line begins with a number of events: head -n NUMBER FILE | causal_judge explain - says why\n"
 DISTURBING = ("Cc", "Cf", "Cs", "Zl", "Zp")
 WHOLE = re.compile(r"-?[1-9][0-9]*|0")
@@ -193,14 +194,20 @@ def read_log(data):
     return reader.found()
 
 
+def noted_lines(data, found):
+    """For each line that has a note, its number and the note."""
+    texts = data.split(b"\n")
+    return [[line, json.loads(texts[line - 1])[-1]] for line in found.noted]
+
+
 def notes_of(data, found):
     """The notes of each call of a log, by the line of its begin: the line of each, and itself."""
-    begun, notes, texts = {}, {}, data.split(b"\n")
+    begun, notes, noted = {}, {}, dict(noted_lines(data, found))
     for (word, client, *_), line in zip(found.events, found.lines):
         if word == "start":
             continue
         begun[client] = line if word == "begin" else begun[client]
-        notes.setdefault(begun[client], []).extend([(line, json.loads(texts[line - 1])[-1])] if line in found.noted else [])
+        notes.setdefault(begun[client], []).extend([(line, noted[line])] if line in noted else [])
     return notes
 
 
@@ -296,6 +303,30 @@ def cuts_of(found, every):
     return cuts if found.refusal or len(found.events) in cuts else [*cuts, len(found.events)]
 
 
+def late_write(events, every, judged):
+    """The places of the begins of a read and of the first write of the value that it returned, where one of the cuts of so many events that
+    were judged comes after the end of the read and before that begin, and the key had not the value at the start. Of several reads it
+    is the first one; none where there is none."""
+    first, begun, ended = {}, {}, []
+    for place, (word, *rest) in enumerate(events):
+        if word == "start" or (word == "begin" and rest[1] == "w"):
+            first.setdefault(tuple(rest[-2:]), -1 if word == "start" else place)
+        elif word == "begin":
+            begun[rest[0]] = place, rest[2]
+        elif rest[1] == "got":
+            read, key = begun[rest[0]]
+            ended.append((read, place + 1, (key, rest[2])))
+    cuts = range(every, judged + 1, every)
+    late = [(read, first[pair]) for read, end, pair in sorted(ended) if pair in first and any(end <= cut <= first[pair] for cut in cuts)]
+    return late[0] if late else None
+
+
+def late_line(found, many, every, judged):
+    """What is said of the first events of a log, so many of them, of which these were judged, on a write that begins too late."""
+    places = late_write(found.events[:many], every, judged)
+    return LATE.format(*(found.lines[place] for place in places)) if places else ""
+
+
 def names_of(found):
     """The tables: the clients, the keys and the values, each by number."""
     return [found.names[kind] for kind in ("clients", "keys", "values")]
@@ -304,13 +335,18 @@ def names_of(found):
 def main():
     parser = argparse.ArgumentParser(description=__doc__, formatter_class=argparse.RawDescriptionHelpFormatter)
     parser.add_argument("--names", action="store_true")
+    parser.add_argument("--notes", action="store_true")
     parser.add_argument("--judge", action="store_true")
     given = parser.parse_args()
-    found = read_log(sys.stdin.buffer.read())
+    data = sys.stdin.buffer.read()
+    found = read_log(data)
     if found.refusal:
         sys.exit("refused {} {}".format(*found.refusal))
     sys.stderr.write(NOT_WHOLE * found.is_torn)
-    text = text_of(names_of(found) if given.names else history_of(found.events)) if not given.judge else report_on(found.events)
+    if given.judge:
+        text = report_on(found.events)
+    else:
+        text = text_of(names_of(found) if given.names else noted_lines(data, found) if given.notes else history_of(found.events))
     sys.stdout.write(text or sys.exit("values are not distinct"))
 
 

@@ -92,6 +92,7 @@ def by_rattle(given):
 PARTS = (
     Part("tables", lambda given: given.of("tables")),
     Part("file_operands", lambda given: given.of("file_operands")),
+    Part("progress", lambda given: given.of("progress")),
     Part("tables_by_rattle", lambda given: ["tests/tables.py", "--", str(by_rattle(given))], file=by_rattle, install="rt ci builds it"),
     Part("error_numbers", lambda given: ["tests/error_numbers.py"]),
     Part("architecture", lambda given: ["tests/architecture.py"]),

@@ -66,7 +66,7 @@ class Judged(FolderCase):
         write_log(self.log, LOST_WRITE)
         self.assertEqual(explain(self.log, "words"), explain(self.log))
         found = json.loads(explain(self.log, form="json"))
-        self.assertEqual(found[0], ["cc", "no", ["WriteCOInitRead", [[0, 0], [0, 1]]]])
+        self.assertEqual(found[0], ["cc", "no", ["WriteCOInitRead", [[0, 0], [0, 1]]], "read your writes"])
         self.assertTrue(explain(self.log, "svg").startswith("<svg"))
         self.assertTrue(explain(self.log, "html").startswith("<!DOCTYPE html>"))
         for form in ("pdf", "", None):

@@ -71,6 +71,8 @@ setting_of word value =
     if mark word == 108097045 then settings.All (number_in value) else
     if mark word == 97110045 then settings.Names else
     if mark word == 117115045 then settings.Summary else
+    if mark word == 111110045 then settings.Notes else
+    if mark word == 114112045 then settings.Progress else
     if mark word == 116097045 then settings.AtLeastReads (number_in value) else
     if mark word == 111099045 then settings.Color (coloring_from value) else
     if mark word == 104119045 then settings.Why else
@@ -93,8 +95,10 @@ alone-read settings.Svg w says = ap (λ v. setting_of v (value_of v)) says
 alone-read settings.Html w says = ap (λ v. setting_of v (value_of v)) says
 alone-read settings.Events w says = ap (λ v. setting_of v (value_of v)) says
 alone-read settings.Names w says = ap (λ v. setting_of v (value_of v)) says
+alone-read settings.Notes w says = ap (λ v. setting_of v (value_of v)) says
 alone-read settings.Why w says = ap (λ v. setting_of v (value_of v)) says
 alone-read settings.Summary w says = ap (λ v. setting_of v (value_of v)) says
+alone-read settings.Progress w says = ap (λ v. setting_of v (value_of v)) says
 alone-read (settings.Seals n) w says = ap (λ v. setting_of v (value_of v)) says.1 ∙ ap settings.Seals says.2.1
 alone-read (settings.Workers n) w says = ap (λ v. setting_of v (value_of v)) says.1 ∙ ap settings.Workers says.2.1
 alone-read (settings.Stop n) w says = ap (λ v. setting_of v (value_of v)) says.1 ∙ ap settings.Stop says.2.1
@@ -128,8 +132,10 @@ together-read settings.Svg w value says = absurd says
 together-read settings.Html w value says = absurd says
 together-read settings.Events w value says = absurd says
 together-read settings.Names w value says = absurd says
+together-read settings.Notes w value says = absurd says
 together-read settings.Why w value says = absurd says
 together-read settings.Summary w value says = absurd says
+together-read settings.Progress w value says = absurd says
 
 -- one word says one thing, and so do two
 pub alone_once : (s t : Setting) (w : Text) → SaysAlone s w → SaysAlone t w → s ≡ t
@@ -158,8 +164,10 @@ alone-no-option settings.Svg w says = ap names_option says
 alone-no-option settings.Html w says = ap names_option says
 alone-no-option settings.Events w says = ap names_option says
 alone-no-option settings.Names w says = ap names_option says
+alone-no-option settings.Notes w says = ap names_option says
 alone-no-option settings.Why w says = ap names_option says
 alone-no-option settings.Summary w says = ap names_option says
+alone-no-option settings.Progress w says = ap names_option says
 alone-no-option (settings.Seals n) w says = ap names_option says.1
 alone-no-option (settings.Workers n) w says = ap names_option says.1
 alone-no-option (settings.Stop n) w says = ap names_option says.1
@@ -191,8 +199,10 @@ together-option settings.Svg w value says = absurd says
 together-option settings.Html w value says = absurd says
 together-option settings.Events w value says = absurd says
 together-option settings.Names w value says = absurd says
+together-option settings.Notes w value says = absurd says
 together-option settings.Why w value says = absurd says
 together-option settings.Summary w value says = absurd says
+together-option settings.Progress w value says = absurd says
 
 pub alone_or_together : (s t : Setting) (w value : Text) → SaysAlone s w → SaysTogether t w value → ⊥
 alone_or_together s t w value says also = let bad : ◌≡◌ {A = Bool} true false = sym (together-option t w value also) ∙ alone-no-option s w says in absurd (cc)
@@ -232,8 +242,10 @@ split_alone settings.Svg w name value bare front later says = absurd (bare.svg s
 split_alone settings.Html w name value bare front later says = absurd (bare.html says)
 split_alone settings.Events w name value bare front later says = absurd (bare.events says)
 split_alone settings.Names w name value bare front later says = absurd (bare.names says)
+split_alone settings.Notes w name value bare front later says = absurd (bare.notes says)
 split_alone settings.Why w name value bare front later says = absurd (bare.why says)
 split_alone settings.Summary w name value bare front later says = absurd (bare.summary says)
+split_alone settings.Progress w name value bare front later says = absurd (bare.progress says)
 
 joined_alone : (s : Setting) (w name value : Text) → w ≡ name ++ 61 ∷ value → SaysTogether s name value → SaysAlone s w
 joined_alone (settings.Seals n) w name value is says = (value, is ∙ ap (λ (t : Text). t ++ 61 ∷ value) says.0, says.1, says.2)
@@ -256,8 +268,10 @@ joined_alone settings.Svg w name value is says = absurd says
 joined_alone settings.Html w name value is says = absurd says
 joined_alone settings.Events w name value is says = absurd says
 joined_alone settings.Names w name value is says = absurd says
+joined_alone settings.Notes w name value is says = absurd says
 joined_alone settings.Why w name value is says = absurd says
 joined_alone settings.Summary w name value is says = absurd says
+joined_alone settings.Progress w name value is says = absurd says
 
 pub said_by_value : (w name value : Text) (r : Option Setting) → IsNoBareWord w → w ≡ name ++ 61 ∷ value → name ≡ before_first is_equals w
     → value ≡ after_first is_equals w → MatchOption r ((s : Setting) → ¬ SaysTogether s name value) (λ s. SaysTogether s name value)
@@ -282,8 +296,10 @@ no_value w bare free settings.Svg says = bare.svg says
 no_value w bare free settings.Html says = bare.html says
 no_value w bare free settings.Events says = bare.events says
 no_value w bare free settings.Names says = bare.names says
+no_value w bare free settings.Notes says = bare.notes says
 no_value w bare free settings.Why says = bare.why says
 no_value w bare free settings.Summary says = bare.summary says
+no_value w bare free settings.Progress says = bare.progress says
 no_value w bare free (settings.Seals n) says = has_equals w (codes "--seals=" ++ says.0) 7 free says.1 (omega arith) refl
 no_value w bare free (settings.Workers n) says = has_equals w (codes "--workers=" ++ says.0) 9 free says.1 (omega arith) refl
 no_value w bare free (settings.Stop n) says = has_equals w (codes "--stop=" ++ says.0) 6 free says.1 (omega arith) refl
@@ -353,8 +369,10 @@ no_together w value _ _ _ _ _ _ _ _ _ settings.Svg says = says
 no_together w value _ _ _ _ _ _ _ _ _ settings.Html says = says
 no_together w value _ _ _ _ _ _ _ _ _ settings.Events says = says
 no_together w value _ _ _ _ _ _ _ _ _ settings.Names says = says
+no_together w value _ _ _ _ _ _ _ _ _ settings.Notes says = says
 no_together w value _ _ _ _ _ _ _ _ _ settings.Why says = says
 no_together w value _ _ _ _ _ _ _ _ _ settings.Summary says = says
+no_together w value _ _ _ _ _ _ _ _ _ settings.Progress says = says
 
 -- the name of an option begins with a hyphen
 pub together_dashed : (s : Setting) (w value : Text) → SaysTogether s w value → is_bare w ≡ false
@@ -378,8 +396,10 @@ together_dashed settings.Svg w value says = absurd says
 together_dashed settings.Html w value says = absurd says
 together_dashed settings.Events w value says = absurd says
 together_dashed settings.Names w value says = absurd says
+together_dashed settings.Notes w value says = absurd says
 together_dashed settings.Why w value says = absurd says
 together_dashed settings.Summary w value says = absurd says
+together_dashed settings.Progress w value says = absurd says
 
 pub none_said : (w value : Text) (r : Option Setting) → r ≡ None → ((s : Setting) → ¬ SaysTogether s w value)
     → MatchOption r ((s : Setting) → ¬ SaysTogether s w value) (λ s. SaysTogether s w value)

@@ -56,6 +56,9 @@ flag name = record (new_rule name) { long = Some name; action = Some SetTrue }
 abbrev pub why : Rule
 why = flag (codes "why")
 
+abbrev pub progress : Rule
+progress = flag (codes "progress")
+
 abbrev pub every : Rule
 every = number_option (codes "every") 1 MAX_EVERY
 
@@ -86,29 +89,29 @@ command_with name rules = fold with_rule (new_app name) rules
 abbrev pub judge : App
 judge = command_with (codes "judge")
     (workers ∷ expect ∷ flag (codes "lines") ∷ flag (codes "skip-blank") ∷ flag (codes "long") ∷ flag (codes "events") ∷ every ∷ flag (codes "summary")
-    ∷ least_reads ∷ color ∷ why ∷ files ∷ [])
+    ∷ least_reads ∷ color ∷ why ∷ progress ∷ files ∷ [])
 
 abbrev pub check : App
-check = command_with (codes "check") (workers ∷ why ∷ files ∷ [])
+check = command_with (codes "check") (workers ∷ why ∷ progress ∷ files ∷ [])
 
 abbrev pub explain : App
 explain = command_with (codes "explain")
     (flag (codes "json") ∷ flag (codes "certificates") ∷ flag (codes "svg") ∷ flag (codes "html") ∷ flag (codes "long") ∷ all
-    ∷ flag (codes "events") ∷ output ∷ color ∷ why ∷ files ∷ [])
+    ∷ flag (codes "events") ∷ output ∷ color ∷ why ∷ progress ∷ files ∷ [])
 
 abbrev pub refute : App
-refute = command_with (codes "refute") (flag (codes "long") ∷ why ∷ files ∷ [])
+refute = command_with (codes "refute") (flag (codes "long") ∷ why ∷ progress ∷ files ∷ [])
 
 abbrev pub replay : App
-replay = command_with (codes "replay") (why ∷ files ∷ [])
+replay = command_with (codes "replay") (why ∷ progress ∷ files ∷ [])
 
 abbrev pub drive : App
 drive = command_with (codes "drive")
     (store ∷ flag (codes "eager") ∷ number_option (codes "seals") 0 MAX_SEALS ∷ workers
-    ∷ number_option (codes "stop") 0 (MAX_SESSIONS - 1) ∷ why ∷ files ∷ [])
+    ∷ number_option (codes "stop") 0 (MAX_SESSIONS - 1) ∷ why ∷ progress ∷ files ∷ [])
 
 abbrev pub events : App
-events = command_with (codes "events") (flag (codes "names") ∷ files ∷ [])
+events = command_with (codes "events") (flag (codes "names") ∷ flag (codes "notes") ∷ progress ∷ files ∷ [])
 
 abbrev pub command_line : App
 command_line = fold (λ app command. with_subcommand app command.top) top (judge ∷ check ∷ explain ∷ refute ∷ replay ∷ drive ∷ events ∷ [])

@@ -71,8 +71,10 @@ takes commands.Judge settings.Why = true
 takes commands.Judge settings.Summary = true
 takes commands.Judge (settings.AtLeastReads n) = true
 takes commands.Judge (settings.Color coloring) = true
+takes commands.Judge settings.Progress = true
 takes commands.Check (settings.Workers n) = true
 takes commands.Check settings.Why = true
+takes commands.Check settings.Progress = true
 takes commands.Explain settings.Json = true
 takes commands.Explain settings.Certificates = true
 takes commands.Explain settings.Svg = true
@@ -83,16 +85,22 @@ takes commands.Explain (settings.All n) = true
 takes commands.Explain settings.Why = true
 takes commands.Explain settings.Output = true
 takes commands.Explain (settings.Color coloring) = true
+takes commands.Explain settings.Progress = true
 takes commands.Refute settings.Long = true
 takes commands.Refute settings.Why = true
+takes commands.Refute settings.Progress = true
 takes commands.Replay settings.Why = true
+takes commands.Replay settings.Progress = true
 takes commands.Drive (settings.Store store) = true
 takes commands.Drive settings.Eager = true
 takes commands.Drive (settings.Seals n) = true
 takes commands.Drive (settings.Workers n) = true
 takes commands.Drive (settings.Stop s) = true
 takes commands.Drive settings.Why = true
+takes commands.Drive settings.Progress = true
 takes commands.Events settings.Names = true
+takes commands.Events settings.Notes = true
+takes commands.Events settings.Progress = true
 takes _ _ = false
 
 -- the word that names a store
@@ -119,8 +127,10 @@ SaysAlone settings.Svg word = word ≡ codes "--svg"
 SaysAlone settings.Html word = word ≡ codes "--html"
 SaysAlone settings.Events word = word ≡ codes "--events"
 SaysAlone settings.Names word = word ≡ codes "--names"
+SaysAlone settings.Notes word = word ≡ codes "--notes"
 SaysAlone settings.Why word = word ≡ codes "--why"
 SaysAlone settings.Summary word = word ≡ codes "--summary"
+SaysAlone settings.Progress word = word ≡ codes "--progress"
 SaysAlone (settings.Seals n) word = (number : Text) × (word ≡ codes "--seals=" ++ number) × Writes number n × (n ≤ MAX_SEALS)
 SaysAlone (settings.Workers n) word = (number : Text) × (word ≡ codes "--workers=" ++ number) × Writes number n × AreWorkers n
 SaysAlone (settings.Stop s) word = (number : Text) × (word ≡ codes "--stop=" ++ number) × Writes number s × (s < MAX_SESSIONS)
@@ -172,11 +182,13 @@ says said settings.Html = said.html
 says said settings.Events = said.events
 says said (settings.Every n) = is_some said.every
 says said settings.Names = said.names
+says said settings.Notes = said.notes
 says said settings.Why = said.why
 says said settings.Output = said.output
 says said settings.Summary = said.summary
 says said (settings.AtLeastReads n) = is_some said.least_reads
 says said (settings.Color coloring) = is_some said.coloring
+says said settings.Progress = said.progress
 
 abbrev pub with_setting : Said → Setting → Said
 with_setting said (settings.Store store) = record said { store = Some store }
@@ -196,11 +208,13 @@ with_setting said settings.Html = record said { html = true }
 with_setting said settings.Events = record said { events = true }
 with_setting said (settings.Every n) = record said { every = Some n }
 with_setting said settings.Names = record said { names = true }
+with_setting said settings.Notes = record said { notes = true }
 with_setting said settings.Why = record said { why = true }
 with_setting said settings.Output = record said { output = true }
 with_setting said settings.Summary = record said { summary = true }
 with_setting said (settings.AtLeastReads n) = record said { least_reads = Some n }
 with_setting said (settings.Color coloring) = record said { coloring = Some coloring }
+with_setting said settings.Progress = record said { progress = true }
 
 -- what was said, and one thing more, which the command takes and which was not said before
 abbrev pub and_also : Said → Setting → Option Said
@@ -227,11 +241,13 @@ unsaid command = record {
   events = false;
   every = None;
   names = false;
+  notes = false;
   why = false;
   output = false;
   summary = false;
   least_reads = None;
   coloring = None;
+  progress = false;
 }
 
 -- one thing more is said by one word, or by two
@@ -397,9 +413,15 @@ drive_of said store = record {
 abbrev pub drive_for : Said → Option Drive
 drive_for said = option_map (drive_of said) said.store
 
--- the history of a log is written, or its names
-abbrev pub events_for : Said → Task
-events_for said = if said.names then OfLog log_orders.WriteNames else OfLog log_orders.WriteHistory
+-- the history of a log is written, or its names, or the notes of its calls
+abbrev pub events_of : Bool → Bool → Option Task
+events_of false false = Some (OfLog log_orders.WriteHistory)
+events_of true false = Some (OfLog log_orders.WriteNames)
+events_of false true = Some (OfLog log_orders.WriteNotes)
+events_of true true = None
+
+abbrev pub events_for : Said → Option Task
+events_for said = events_of said.names said.notes
 
 -- the task that all that was said to a command gives
 abbrev pub task_to : CommandName → Said → Option Task
@@ -409,7 +431,7 @@ task_to commands.Explain said = explain_for said
 task_to commands.Refute said = Some (OfInput (orders.Refute (length_for said)) (detail_for said))
 task_to commands.Replay said = Some (OfInput orders.Replay (detail_for said))
 task_to commands.Drive said = option_map (λ drive. OfInput (orders.Drive drive) (detail_for said)) (drive_for said)
-task_to commands.Events said = Some (events_for said)
+task_to commands.Events said = events_for said
 
 abbrev pub task_for : Said → Option Task
 task_for said = task_to said.command said
@@ -421,6 +443,7 @@ manner_for said = record {
   summary = said.summary;
   least_reads = said.least_reads;
   coloring = unwrap_or said.coloring colorings.Auto;
+  progress = said.progress;
 }
 
 -- what counts as said on an input that looks so: that it is a log, or a memory history of any length, for which no certificates are

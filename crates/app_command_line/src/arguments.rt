@@ -2,11 +2,11 @@
 ghost use Rattle.std.specs.Prelude.{◌≡◌, ◌-◌, codes, false};
 ghost use Rattle.clap.specs.Words.{rule_of};
 ghost use Rattle.app_command_line.specs.CommandLine.{all, color, every, expect, files, flag, least_reads};
-ghost use Rattle.app_command_line.specs.CommandLine.{number_option, output, store, why, workers};
+ghost use Rattle.app_command_line.specs.CommandLine.{number_option, output, progress, store, why, workers};
 ghost use Rattle.app_command_line.specs.Steps.Arguments.{rule_of_argument};
 
 use crate::drive::MAX_SEALS;
-use crate::help::{COLOR, EVERY, FILES, LEAST_READS, OUTPUT, WHY};
+use crate::help::{COLOR, EVERY, FILES, LEAST_READS, OUTPUT, PROGRESS, WHY};
 use crate::listing::MAX_LISTED;
 use crate::log_order::MAX_EVERY;
 use crate::manner::MAX_LEAST_READS;
@@ -73,6 +73,13 @@ pub fn why_argument<'a>() -> Argument<'a>
     ensures { rule_of_argument result ≡ why }
 {
     Argument::Flag("why", WHY)
+}
+
+/// Whether the program says how far the work is.
+pub fn progress_argument<'a>() -> Argument<'a>
+    ensures { rule_of_argument result ≡ progress }
+{
+    Argument::Flag("progress", PROGRESS)
 }
 
 /// How many seals are taken while clients run.

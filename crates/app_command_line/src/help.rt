@@ -1,7 +1,7 @@
 //! What the help says beside the commands and their options.
 
 /// The version of the program, as in the file VERSION, and the kit that proves it.
-pub const VERSION: &str = "0.1.0 (rattle-kit-13b logic dac8208d650f15bf)";
+pub const VERSION: &str = "0.1.0 (rattle-kit-13f logic dac8208d650f15bf)";
 
 /// What the program is for.
 pub const ABOUT: &str =
@@ -54,6 +54,10 @@ pub const LEAST_READS: &str =
 pub const COLOR: &str =
     "Whether yes, no and unknown are coloured: auto (on a terminal), always or never";
 
+/// What `--progress` says.
+pub const PROGRESS: &str =
+    "Says on standard error how far the work is; on a terminal, work of over a second does so anyway";
+
 /// What `-o` does.
 pub const OUTPUT: &str = "Writes the answer to this file: the whole of it, or nothing";
 
@@ -64,6 +68,9 @@ pub const FILES: &str =
 /// What `--names` lets `events` write.
 pub const NAMES: &str =
     "Writes the clients, the keys and the values of the log as JSON, each in the order of its numbers";
+
+/// What `--notes` lets `events` write.
+pub const NOTES: &str = "Writes the notes of the log's calls, each with the number of its line";
 
 /// How a run is recorded, judged and explained, and where to read on.
 pub const MANUAL: &str =

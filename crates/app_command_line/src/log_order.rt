@@ -20,6 +20,8 @@ pub enum LogOrder {
     WriteHistory,
     /// Writes the clients, keys and values of the log, in the order of their numbers.
     WriteNames,
+    /// Writes the notes of the log's calls, each with the number of its line.
+    WriteNotes,
 }
 
 /// How a log is judged.

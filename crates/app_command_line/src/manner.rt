@@ -26,4 +26,6 @@ pub struct Manner {
     pub least_reads: Option<u32>,
     /// Whether the lines of the answer are coloured.
     pub coloring: Coloring,
+    /// Whether standard error says from the start how far the work is, also where it is no terminal.
+    pub progress: bool,
 }

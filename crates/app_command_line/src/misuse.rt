@@ -28,6 +28,11 @@ const EVERY_WITHOUT_EVENTS: Misuse = Misuse {
     usage: "judge --events --every <N> [FILE]...",
 };
 
+const NAMES_WITH_NOTES: Misuse = Misuse {
+    fault: "'--names' and '--notes' exclude one another: each asks for an answer of its own",
+    usage: "events [--names|--notes] [OPTIONS]",
+};
+
 const SKIP_BLANK_WITHOUT_LINES: Misuse = Misuse {
     fault: "'--skip-blank' asks for '--lines': it skips lines where each line holds a history",
     usage: "judge --lines --skip-blank [OPTIONS]",
@@ -120,6 +125,9 @@ pub fn usage_fault(alloc: Global, fault: &str, usage: &str) -> Result<String, Al
 ///
 /// Fails for want of memory alone. O(n) for n words.
 pub(crate) fn text_of_misuse<S: AsStr>(alloc: Global, words: &[S]) -> Result<String, AllocError> {
+    if says(words, "--names") && says(words, "--notes") {
+        return NAMES_WITH_NOTES.text(alloc);
+    }
     if let Some(misuse) = misuse_of_events(words) {
         return misuse.text(alloc);
     }

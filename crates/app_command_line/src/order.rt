@@ -80,11 +80,12 @@ pub enum Usage {
 /// - `check` takes `--workers N`.
 /// - `explain` takes nothing, `--json`, `--json` and `--certificates`, `--svg`, or `--html`. With `--long` or `--events` it does not take
 ///   `--certificates`, and with `--all N`, for a number from 1 to 1,000,000, neither `--certificates` nor `--svg`. It takes `-o FILE`.
-/// - `refute` takes `--long`, and `events` takes `--names`.
+/// - `refute` takes `--long`, and `events` takes `--names` or `--notes`.
 /// - `drive` takes `causal` or `lamport`, which can't be left out, `--eager`, `--seals N` for a number from 0 to 8, or nothing for 0,
 ///   `--workers N`, and `--stop S` for a number from 0 to 15.
 /// - `judge` without `--lines`, `check`, `explain`, `refute`, `replay` and `drive` take `--why`.
 /// - `judge` and `explain` take `--color WHEN`, for `auto`, `always` or `never`.
+/// - Every command takes `--progress`.
 ///
 /// An option and its value are two words, or one as in `--workers=N`. Every command takes any number of files: words that begin with no
 /// hyphen, or are a hyphen. A file named `causal` or `lamport` is written `./causal`.

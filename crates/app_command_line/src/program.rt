@@ -6,12 +6,12 @@ ghost use Rattle.app_command_line.specs.CommandLine.{check, command_line, drive,
 ghost use Rattle.app_command_line.specs.Steps.Arguments.{app_named, with_argument, with_command};
 
 use crate::arguments::{
-    Argument, all_argument, every_argument, least_reads_argument, seals_argument, stop_argument,
-    why_argument, workers_argument,
+    Argument, all_argument, every_argument, least_reads_argument, progress_argument,
+    seals_argument, stop_argument, why_argument, workers_argument,
 };
 use crate::help::{
     ABOUT, EVENTS, EVENTS_REASON, HTML, LINES, LONG, LONG_PATTERN, LONG_REASON, MANUAL, NAMES,
-    SKIP_BLANK, SUMMARY, VERSION,
+    NOTES, SKIP_BLANK, SUMMARY, VERSION,
 };
 use crate::manuals;
 use crate::settings::CommandName;
@@ -171,6 +171,7 @@ fn judge_command<'a>(alloc: Global) -> Result<Command<'a>, AllocError>
             least_reads_argument(),
             Argument::Color,
             why_argument(),
+            progress_argument(),
             Argument::Files,
         ],
     )
@@ -185,7 +186,12 @@ fn check_command<'a>(alloc: Global) -> Result<Command<'a>, AllocError>
         "check",
         "Reads a history and a certificate of it, and checks it",
         manuals::CHECK,
-        &[workers_argument(), why_argument(), Argument::Files],
+        &[
+            workers_argument(),
+            why_argument(),
+            progress_argument(),
+            Argument::Files,
+        ],
     )
 }
 
@@ -212,6 +218,7 @@ fn explain_command<'a>(alloc: Global) -> Result<Command<'a>, AllocError>
             Argument::Output,
             Argument::Color,
             why_argument(),
+            progress_argument(),
             Argument::Files,
         ],
     )
@@ -229,6 +236,7 @@ fn refute_command<'a>(alloc: Global) -> Result<Command<'a>, AllocError>
         &[
             Argument::Flag("long", LONG_PATTERN),
             why_argument(),
+            progress_argument(),
             Argument::Files,
         ],
     )
@@ -243,7 +251,7 @@ fn replay_command<'a>(alloc: Global) -> Result<Command<'a>, AllocError>
         "replay",
         "Reads a script of sessions, sealers and workers, and runs it",
         manuals::REPLAY,
-        &[why_argument(), Argument::Files],
+        &[why_argument(), progress_argument(), Argument::Files],
     )
 }
 
@@ -256,7 +264,12 @@ fn events_command<'a>(alloc: Global) -> Result<Command<'a>, AllocError>
         "events",
         "Reads a log of events, and writes the history that it records",
         manuals::EVENTS,
-        &[Argument::Flag("names", NAMES), Argument::Files],
+        &[
+            Argument::Flag("names", NAMES),
+            Argument::Flag("notes", NOTES),
+            progress_argument(),
+            Argument::Files,
+        ],
     )
 }
 
@@ -279,6 +292,7 @@ fn drive_command<'a>(alloc: Global) -> Result<Command<'a>, AllocError>
             workers_argument(),
             stop_argument(),
             why_argument(),
+            progress_argument(),
             Argument::Files,
         ],
     )

@@ -48,11 +48,13 @@ pub struct Said {
     events: bool,
     every: Option<u32>,
     names: bool,
+    notes: bool,
     why: bool,
     output: bool,
     summary: bool,
     least_reads: Option<u32>,
     coloring: Option<Coloring>,
+    progress: bool,
 }
 
 impl Said {
@@ -79,11 +81,13 @@ impl Said {
             events: false,
             every: None,
             names: false,
+            notes: false,
             why: false,
             output: false,
             summary: false,
             least_reads: None,
             coloring: None,
+            progress: false,
         }
     }
 
@@ -120,11 +124,13 @@ impl Said {
             Setting::Events => self.events,
             Setting::Every(_) => self.every.is_some(),
             Setting::Names => self.names,
+            Setting::Notes => self.notes,
             Setting::Why => self.why,
             Setting::Output => self.output,
             Setting::Summary => self.summary,
             Setting::AtLeastReads(_) => self.least_reads.is_some(),
             Setting::Color(_) => self.coloring.is_some(),
+            Setting::Progress => self.progress,
         }
     }
 
@@ -151,11 +157,13 @@ impl Said {
             Setting::Events => said.events = true,
             Setting::Every(events) => said.every = Some(*events),
             Setting::Names => said.names = true,
+            Setting::Notes => said.notes = true,
             Setting::Why => said.why = true,
             Setting::Output => said.output = true,
             Setting::Summary => said.summary = true,
             Setting::AtLeastReads(least) => said.least_reads = Some(*least),
             Setting::Color(coloring) => said.coloring = Some(*coloring),
+            Setting::Progress => said.progress = true,
         }
         said
     }
@@ -181,6 +189,7 @@ impl Said {
             summary: self.summary,
             least_reads: self.least_reads,
             coloring: self.coloring.unwrap_or(Coloring::Auto),
+            progress: self.progress,
         }
     }
 
@@ -212,7 +221,7 @@ impl Said {
             CommandName::Refute => Some(self.of_input(Order::Refute(self.length()))),
             CommandName::Replay => Some(self.of_input(Order::Replay)),
             CommandName::Drive => Some(self.of_input(Order::Drive(self.drive()?))),
-            CommandName::Events => Some(self.events()),
+            CommandName::Events => self.events(),
         }
     }
 
@@ -304,14 +313,15 @@ impl Said {
         }
     }
 
-    // The task to write what a log has.
-    fn events(&self) -> Task
+    // The task to write what a log has; none where what was said doesn't go together.
+    fn events(&self) -> Option<Task>
         ensures { result ≡ events_for self.now }
     {
-        if self.names {
-            Task::OfLog(LogOrder::WriteNames)
-        } else {
-            Task::OfLog(LogOrder::WriteHistory)
+        match (self.names, self.notes) {
+            (false, false) => Some(Task::OfLog(LogOrder::WriteHistory)),
+            (true, false) => Some(Task::OfLog(LogOrder::WriteNames)),
+            (false, true) => Some(Task::OfLog(LogOrder::WriteNotes)),
+            (true, true) => None,
         }
     }
 

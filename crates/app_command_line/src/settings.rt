@@ -56,6 +56,8 @@ pub enum Setting {
     Every(u32),
     /// The names of a log are written.
     Names,
+    /// The notes of a log's calls are written.
+    Notes,
     /// At most so many reads that show a fault are listed.
     All(u32),
     /// A reason is given as JSON.
@@ -76,6 +78,8 @@ pub enum Setting {
     AtLeastReads(u32),
     /// Whether the lines of an answer are coloured.
     Color(Coloring),
+    /// Standard error says how far the work is.
+    Progress,
 }
 
 /// The command of this name.
@@ -110,7 +114,8 @@ impl Setting {
             | Setting::Why
             | Setting::Summary
             | Setting::AtLeastReads(_)
-            | Setting::Color(_) => true,
+            | Setting::Color(_)
+            | Setting::Progress => true,
             _ => false,
         }
     }
@@ -119,7 +124,7 @@ impl Setting {
         ensures { result ≡ takes CommandName.Check self.now }
     {
         match self {
-            Setting::Workers(_) | Setting::Why => true,
+            Setting::Workers(_) | Setting::Why | Setting::Progress => true,
             _ => false,
         }
     }
@@ -137,7 +142,8 @@ impl Setting {
             | Setting::All(_)
             | Setting::Why
             | Setting::Output
-            | Setting::Color(_) => true,
+            | Setting::Color(_)
+            | Setting::Progress => true,
             _ => false,
         }
     }
@@ -146,7 +152,7 @@ impl Setting {
         ensures { result ≡ takes CommandName.Refute self.now }
     {
         match self {
-            Setting::Long | Setting::Why => true,
+            Setting::Long | Setting::Why | Setting::Progress => true,
             _ => false,
         }
     }
@@ -155,7 +161,7 @@ impl Setting {
         ensures { result ≡ takes CommandName.Replay self.now }
     {
         match self {
-            Setting::Why => true,
+            Setting::Why | Setting::Progress => true,
             _ => false,
         }
     }
@@ -164,7 +170,7 @@ impl Setting {
         ensures { result ≡ takes CommandName.Events self.now }
     {
         match self {
-            Setting::Names => true,
+            Setting::Names | Setting::Notes | Setting::Progress => true,
             _ => false,
         }
     }
@@ -178,7 +184,8 @@ impl Setting {
             | Setting::Seals(_)
             | Setting::Workers(_)
             | Setting::Stop(_)
-            | Setting::Why => true,
+            | Setting::Why
+            | Setting::Progress => true,
             _ => false,
         }
     }
@@ -214,12 +221,14 @@ pub fn setting_alone(word: &str) -> Option<Setting>
         "--long" => Some(Setting::Long),
         "--events" => Some(Setting::Events),
         "--names" => Some(Setting::Names),
+        "--notes" => Some(Setting::Notes),
         "--json" => Some(Setting::Json),
         "--certificates" => Some(Setting::Certificates),
         "--svg" => Some(Setting::Svg),
         "--html" => Some(Setting::Html),
         "--why" => Some(Setting::Why),
         "--summary" => Some(Setting::Summary),
+        "--progress" => Some(Setting::Progress),
         _ => value_alone(word),
     }
 }

@@ -4,6 +4,7 @@ use Rattle.app_command_line.specs.declared.form.Form.TheVariants.{Certificates, 
 use Rattle.app_command_line.specs.declared.order.Order.TheVariants.{Explain}
 use Rattle.json_histories.specs.declared.any_history.AnyHistory.{AnyHistory}
 use Rattle.json_histories.specs.AnyForm.{form_of, IsAnyHistory, IsJson}
+use Rattle.app_explanations.specs.declared.clients.Clients.TheVariants.{Sessions}
 use Rattle.app_explanations.specs.ExplanationTexts.{IsCertifiedJsonOf, IsJsonOf, IsWordsOf}
 use Rattle.app_engine.specs.Running.{IsOutput}
 
@@ -11,7 +12,7 @@ module _ (input : List ℕ) (history : AnyHistory) (is : IsAnyHistory history) (
   pub output_in_words : IsWordsOf history text → IsOutput (Explain Words) input text
   output_in_words said = record { history = history; findings = said.0; is_history = is; read = read; found = said.1; told = said.2 }
 
-  pub output_as_json : IsJsonOf history text → IsOutput (Explain Json) input text
+  pub output_as_json : IsJsonOf Sessions history text → IsOutput (Explain Json) input text
   output_as_json said =
       record { history = history; said = said.0; is_history = is; read = read; true_of = said.1; json = said.2; whole = said.3 }
 

@@ -18,13 +18,14 @@ use Rattle.app_engine.specs.declared.failure.RunError.TheVariants.{History, Scri
 use Rattle.app_explanations.specs.Lengths.{IsHistoryOf}
 use Rattle.app_explanations.specs.ListingFaults.{IsListedAs}
 use Rattle.app_engine.specs.Running.{IsOutput, IsOutputError}
-use Rattle.app_explanations.specs.ListTexts.{IsListOf, IsLongOf}
-use Rattle.app_explanations.specs.ExplanationTexts.{IsExplainedAs}
+use Rattle.app_explanations.specs.ListTexts.{IsListBy, IsLongOf}
+use Rattle.app_explanations.specs.declared.clients.Clients.TheVariants.{Sessions}
+use Rattle.app_explanations.specs.ExplanationTexts.{IsExplainedBy}
 use Rattle.app_engine.specs.Steps.ReportErrors.{IsReportError}
 
 module _ (input : List ℕ) (history : AnyHistory) where
   pub explained_output : (form : LongForm) (text : List ℕ) → IsHistoryOf Any history → IsJson input (form_of history)
-      → IsExplainedAs form history text → IsOutput (ExplainLong form) input text
+      → IsExplainedBy Sessions form history text → IsOutput (ExplainLong form) input text
   explained_output long_forms.Words text is read said =
       record { history = history; findings = said.0; is_history = is; read = read; found = said.1; told = said.2 }
   explained_output long_forms.Json text is read said =
@@ -32,7 +33,7 @@ module _ (input : List ℕ) (history : AnyHistory) where
   explained_output long_forms.Picture text is read svg = record { history = history; is_history = is; read = read; drawn = svg }
 
   pub listed_output : (form : ListForm) (long : Length) (most : ℕ) (text : List ℕ) → IsHistoryOf long history → IsJson input (form_of history)
-      → IsListOf form most history text → IsListedAs form long most input text
+      → IsListBy Sessions form most history text → IsListedAs form long most input text
   listed_output list_forms.Words long most text is read said =
       record { history = history; findings = said.0; is_history = is; read = read; found = said.1; told = said.2 }
   listed_output list_forms.Json long most text is read said =

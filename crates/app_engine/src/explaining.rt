@@ -7,7 +7,8 @@ ghost use Rattle.app_engine.specs.Running.{IsOutput, IsOutputError};
 use crate::failure::RunError;
 use app_command_line::{Form, LongForm, Order};
 use app_explanations::{
-    certified_json_of_history, drawing_of_history, explained_as, json_of_history, words_of_history,
+    certified_json_of_history, drawing_of_history, explained_long, json_of_history,
+    words_of_history,
 };
 use app_findings::PieceWork;
 use json_histories::{AnyHistory, read_history};
@@ -59,7 +60,7 @@ fn text_in<W: PieceWork>(
 /// Why the memory history in the input, of any length, meets each criterion or does not, in a form.
 ///
 /// For a history within the limits of [`History`](operations::History) it is the text of `explain`, except for the words after a yes.
-/// Refuses what is no such history, and fails for want of memory. The cost is that of reading it and of [`explained_as`].
+/// Refuses what is no such history, and fails for want of memory. The cost is that of reading it and of [`explained_long`].
 pub fn explain_long<T: Threads + Wait + Sync>(
     rt: &T,
     alloc: Global,
@@ -70,7 +71,7 @@ pub fn explain_long<T: Threads + Wait + Sync>(
     ensures error { IfErr result (IsOutputError (Order.ExplainLong form) input.now) }
 {
     let history = read_long(alloc, input)?;
-    let text = explained_as(rt, alloc, &history, &OwnNames, form);
+    let text = explained_long(rt, alloc, &history, form);
     drop(history);
     Ok(text?)
 }

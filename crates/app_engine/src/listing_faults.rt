@@ -9,11 +9,10 @@ ghost use Rattle.app_engine.specs.Steps.ReportErrors.{IsReportError};
 
 use crate::failure::RunError;
 use app_command_line::{Length, ListForm, Listing, Order};
-use app_explanations::{list_in_limited, list_in_long};
+use app_explanations::{list_in_limited, listed_long};
 use json_histories::{AnyHistory, read_history};
 use judge_memory::LongHistory;
 use judge_reader::read_long;
-use show_words::OwnNames;
 use std::alloc::Global;
 use std::sync::Wait;
 use std::thread::Threads;
@@ -53,7 +52,7 @@ fn list_in_limited_input<T: Threads + Wait + Sync>(
     match long_of(alloc, input, &history) {
         Ok(long) => {
             let long = long.as_ref();
-            Ok(list_in_limited(rt, alloc, history, long, &OwnNames, most, form)?)
+            Ok(list_in_limited(rt, alloc, history, long, most, form)?)
         }
         Err(error) => {
             history.discard();
@@ -94,7 +93,7 @@ fn list_in_long_input<T: Threads + Wait + Sync>(
     ensures error { IfErr result (IsReportError Length.Any input.now) }
 {
     let history = read_long(alloc, input)?;
-    let text = list_in_long(rt, alloc, &history, &OwnNames, most, form);
+    let text = listed_long(rt, alloc, &history, most, form);
     drop(history);
     Ok(text?)
 }

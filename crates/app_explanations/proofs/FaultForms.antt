@@ -12,7 +12,7 @@ use Rattle.show_faults.specs.declared.tally.Faults.{Faults}
 use Rattle.show_faults.specs.FaultsForm.{breaks_form, fault_form, name_form, session_form}
 use Rattle.app_explanations.specs.declared.fault_lists.FaultReport.{FaultReport}
 use Rattle.app_explanations.specs.ListingFaults.{fault_report_form, list_form}
-use Rattle.app_explanations.proofs.FindingForms.{findings_have_no_float, shown_depth}
+use Rattle.app_explanations.proofs.FindingForms.{beside_depth, findings_have_no_float, shown_depth}
 
 fault_depth : (fault : Fault) → depth (fault_form fault) ≤ 2
 fault_depth (ThinAirRead r) = omega arith
@@ -39,6 +39,9 @@ fault_report_depth report =
     let cc = shown_depth report.findings.cc in
     let cm = shown_depth report.findings.cm in
     let ccv = shown_depth report.findings.ccv in
+    let beside_cc = beside_depth report.remarks.cc in
+    let beside_cm = beside_depth report.remarks.cm in
+    let beside_ccv = beside_depth report.remarks.ccv in
     let listed = list_depth report.faults in
     omega arith
 
@@ -61,4 +64,4 @@ list_has_no_float (Some faults) =
     ) refl
 
 pub fault_report_has_no_float : (report : FaultReport) → has_float (fault_report_form report) ≡ false
-fault_report_has_no_float report = rw (findings_have_no_float report.findings, list_has_no_float report.faults) refl
+fault_report_has_no_float report = rw (findings_have_no_float report.findings report.remarks, list_has_no_float report.faults) refl

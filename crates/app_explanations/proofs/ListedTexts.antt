@@ -14,8 +14,12 @@ use Rattle.app_findings.specs.Findings.{EachIsFinding}
 use Rattle.app_explanations.specs.declared.fault_lists.FaultReport.{FaultReport}
 use Rattle.app_explanations.specs.ExplainingInWords.{TellsEach}
 use Rattle.app_explanations.specs.ListingFaults.{AreFaultsIn, IsFaultReportOf, fault_report_form}
-use Rattle.app_explanations.specs.ListTexts.{AreLinesAfter, IsListInWords, IsListOf, IsLongOf}
+use Rattle.app_explanations.specs.ListTexts.{AreLinesAfter, IsListBy, IsListInWords, IsLongOf}
 use Rattle.app_explanations.specs.ExplanationTexts.{IsCertifiedJsonOf, IsJsonOf, IsWordsOf}
+use Rattle.app_explanations.specs.declared.clients.Clients.{Clients}
+use Rattle.app_explanations.specs.declared.clients.Clients.TheVariants.{Sessions}
+use Rattle.app_explanations.specs.declared.remarks.Remarks.{Remarks}
+use Rattle.app_explanations.specs.Remarks.{EachIsRemark}
 use Rattle.app_explanations.specs.Explaining.{findings_form}
 use Rattle.app_explanations.specs.Certifying.{EachIsEvidence, certified_form}
 
@@ -25,17 +29,21 @@ pub told_in_words : {T E : Type 0} (bytes : T → List ℕ) (history : AnyHistor
 told_in_words bytes history findings (Ok text) found tells = (findings, found, tells)
 told_in_words bytes history findings (Err e) found tells = tt
 
-pub told_as_json : {T E : Type 0} (bytes : T → List ℕ) (history : AnyHistory) (findings : Findings) (r : Result T E) → EachIsFinding history findings
-    → IfOk r (λ text. bytes text ≡ compact_text (findings_form findings) ++ codes "\n")
-    → OnOk r (IsJson (compact_text (findings_form findings)) (findings_form findings)) → IfOk r (λ text. IsJsonOf history (bytes text))
-told_as_json bytes history findings (Ok text) found whole json = (findings, found, json, whole)
-told_as_json bytes history findings (Err e) found whole json = tt
+pub told_as_json : {T E : Type 0} (bytes : T → List ℕ) (clients : Clients) (history : AnyHistory) (findings : Findings) (remarks : Remarks) (r : Result T E)
+    → EachIsFinding history findings → EachIsRemark clients history findings remarks
+    → IfOk r (λ text. bytes text ≡ compact_text (findings_form findings remarks) ++ codes "\n")
+    → OnOk r (IsJson (compact_text (findings_form findings remarks)) (findings_form findings remarks)) → IfOk r (λ text. IsJsonOf clients history (bytes text))
+told_as_json bytes clients history findings remarks (Ok text) found on whole json =
+    (record { findings = findings; remarks = remarks }, (found, on), json, whole)
+told_as_json bytes clients history findings remarks (Err e) found on whole json = tt
 
-pub told_with_certificates : {T E : Type 0} (bytes : T → List ℕ) (history : AnyHistory) (findings : Findings) (r : Result T E)
-    → EachIsEvidence history findings → IfOk r (λ text. bytes text ≡ compact_text (certified_form findings) ++ codes "\n")
-    → OnOk r (IsJson (compact_text (certified_form findings)) (certified_form findings)) → IfOk r (λ text. IsCertifiedJsonOf history (bytes text))
-told_with_certificates bytes history findings (Ok text) found whole json = (findings, found, json, whole)
-told_with_certificates bytes history findings (Err e) found whole json = tt
+pub told_with_certificates : {T E : Type 0} (bytes : T → List ℕ) (history : AnyHistory) (findings : Findings) (remarks : Remarks) (r : Result T E)
+    → EachIsEvidence history findings → EachIsRemark Sessions history findings remarks
+    → IfOk r (λ text. bytes text ≡ compact_text (certified_form findings remarks) ++ codes "\n")
+    → OnOk r (IsJson (compact_text (certified_form findings remarks)) (certified_form findings remarks)) → IfOk r (λ text. IsCertifiedJsonOf history (bytes text))
+told_with_certificates bytes history findings remarks (Ok text) found on whole json =
+    (record { findings = findings; remarks = remarks }, (found, on), json, whole)
+told_with_certificates bytes history findings remarks (Err e) found on whole json = tt
 
 pub listed_in_words : {T E : Type 0} (bytes : T → List ℕ) (history : AnyHistory) (findings : Findings) (r : Result T E) → EachIsFinding history findings
     → IfOk r (λ text. AreLinesAfter findings (bytes text)) → IfOk r (λ text. IsListInWords history (bytes text))
@@ -43,12 +51,12 @@ listed_in_words bytes history findings (Ok text) found lines = (findings, found,
 listed_in_words bytes history findings (Err e) found lines = tt
 
 -- the JSON text of a report lists its faults
-pub listed_as_json : {T E : Type 0} (bytes : T → List ℕ) (most : ℕ) (history : AnyHistory) (report : FaultReport) (r : Result T E)
-    → IsFaultReportOf most history report → IfOk r (λ text. bytes text ≡ compact_text (fault_report_form report) ++ codes "\n")
+pub listed_as_json : {T E : Type 0} (bytes : T → List ℕ) (clients : Clients) (most : ℕ) (history : AnyHistory) (report : FaultReport) (r : Result T E)
+    → IsFaultReportOf clients most history report → IfOk r (λ text. bytes text ≡ compact_text (fault_report_form report) ++ codes "\n")
     → OnOk r (IsJson (compact_text (fault_report_form report)) (fault_report_form report))
-    → IfOk r (λ text. IsListOf list_forms.Json most history (bytes text))
-listed_as_json bytes most history report (Ok text) is whole json = (report, is, json, whole)
-listed_as_json bytes most history report (Err e) is whole json = tt
+    → IfOk r (λ text. IsListBy clients list_forms.Json most history (bytes text))
+listed_as_json bytes clients most history report (Ok text) is whole json = (report, is, json, whole)
+listed_as_json bytes clients most history report (Err e) is whole json = tt
 
 -- the faults of a memory as one of any length are those of the memory; of another object none are given
 pub faults_of_long : {E : Type 0} (most : ℕ) (history : AnyHistory) (g : MemoryHistory) (r : Result (Option Faults) E) → IsLongOf history (Some g)

@@ -1,5 +1,7 @@
 pub mod Lengths
 pub mod Report
+pub mod BrokenGuarantees
+pub mod Remarks
 pub mod Explaining
 pub mod Certifying
 pub mod ExplainingInWords

@@ -15,6 +15,9 @@ use Rattle.app_command_line.specs.declared.listing.Listing.{Listing}
 use Rattle.app_explanations.specs.declared.fault_lists.FaultReport.{FaultReport}
 use Rattle.app_findings.specs.declared.finding.Findings.{Findings}
 use Rattle.app_findings.specs.Findings.{EachIsFinding}
+use Rattle.app_explanations.specs.declared.clients.Clients.{Clients}
+use Rattle.app_explanations.specs.declared.clients.Clients.TheVariants.{Sessions}
+use Rattle.app_explanations.specs.Remarks.{EachIsRemark}
 use Rattle.app_explanations.specs.Explaining.{findings_form, IsToldOf}
 use Rattle.app_explanations.specs.ExplainingInWords.{IsIndented, TellsEach}
 use Rattle.app_explanations.specs.Lengths.{IsHistoryOf}
@@ -27,18 +30,19 @@ AreFaultsIn most history None = LacksDistinctValues history
 AreFaultsIn most (histories.Memory h) (Some faults) = IsTallyOf h most faults.listed.items faults.counts faults.by_session.items
 AreFaultsIn most _ (Some faults) = ⊥
 
--- the findings are those of a history, and so are the faults
-pub record IsFaultReportOf (most : ℕ) (history : AnyHistory) (report : FaultReport) : Type 0 where
+-- the findings are those of a history, the remarks are on them, and the faults are those of the history
+pub record IsFaultReportOf (clients : Clients) (most : ℕ) (history : AnyHistory) (report : FaultReport) : Type 0 where
   pub found : EachIsFinding history report.findings
+  pub remarks : EachIsRemark clients history report.findings report.remarks
   pub faults : AreFaultsIn most history report.faults
 
--- the form of a list: that of the findings, and that of the faults, if values are distinct
+-- the form of a list: that of an explanation, and that of the faults, if values are distinct
 abbrev pub list_form : Option Faults → Data
 list_form None = null
 list_form (Some faults) = faults_form faults.counts faults.by_session.items faults.listed.items faults.broken
 
 abbrev pub fault_report_form : FaultReport → Data
-fault_report_form report = list (findings_form report.findings ∷ list_form report.faults ∷ [])
+fault_report_form report = list (findings_form report.findings report.remarks ∷ list_form report.faults ∷ [])
 
 -- the text gives what is found of the history in the input, which may be that long, and after them lines that begin with two spaces
 pub record IsListedInWords (long : Length) (input text : List ℕ) : Type 0 where
@@ -51,7 +55,7 @@ pub record IsListedInWords (long : Length) (input text : List ℕ) : Type 0 wher
 
 abbrev pub IsListedAs : ListForm → Length → ℕ → List ℕ → List ℕ → Type 0
 IsListedAs Words long most input text = IsListedInWords long input text
-IsListedAs Json long most input text = IsToldOf long fault_report_form (IsFaultReportOf most) input text
+IsListedAs Json long most input text = IsToldOf long fault_report_form (IsFaultReportOf Sessions most) input text
 
 abbrev pub IsFaultReport : Listing → List ℕ → List ℕ → Type 0
 IsFaultReport listing input text = IsListedAs listing.form listing.length listing.most input text

@@ -2,16 +2,18 @@
 
 ghost use Rattle.std.specs.Prelude.{◌≡◌, IfOk, string_bytes};
 ghost use Rattle.app_findings.specs.Findings.{EachIsFinding};
-ghost use Rattle.app_explanations.specs.ExplanationTexts.{IsExplainedAs, IsWordsOf};
+ghost use Rattle.app_explanations.specs.ExplanationTexts.{IsExplainedAs, IsExplainedBy, IsJsonOf, IsWordsOf};
 
+use crate::clients::Clients;
 use crate::examined::Examined;
 use crate::finding_forms::findings_text;
-use crate::history_forms::{drawing_of_history, json_of_history};
+use crate::history_forms::{drawing_of_history, json_with_names};
 use crate::long_explaining::{LongFindings, findings_of_long};
 use crate::long_picturing::picture_of_long;
 use crate::long_words::{text_of_long, text_of_small};
+use crate::remarks::remarks_on_patterns;
 use app_command_line::LongForm;
-use app_findings::{Kept, PieceWork, findings_of_memory};
+use app_findings::{Findings, Kept, PieceWork, findings_of_memory};
 use json_histories::{AnyHistory, History};
 use judge_decision::SessionWork;
 use judge_memory::LongHistory;
@@ -19,16 +21,30 @@ use judge_reader::small;
 use judge_workers::{WorkerThreads, Workers};
 use model_objects::Memory;
 use order_memory::IndexedMemory;
-use show_words::Names;
+use show_words::{Names, OwnNames};
 use std::alloc::{AllocError, Global};
 use std::sync::Wait;
 use std::thread::Threads;
 
-/// Why a memory history of any length meets each criterion or does not, in a form, with these names.
+/// Why a memory history of any length meets each criterion or does not, in a form.
 ///
 /// For a history within the limits of [`History`] it is the text on that history, except for the words after a yes.
 ///
 /// Fails for want of memory alone. O(n (k + log n)) for n operations of k sessions, or what [`findings_of`] takes within the limits.
+pub fn explained_long<T: Threads + Wait + Sync>(
+    rt: &T,
+    alloc: Global,
+    history: &LongHistory,
+    form: LongForm,
+) -> Result<String, AllocError>
+    ensures { IfOk result (λ text. IsExplainedBy Clients.Sessions form (AnyHistory.Memory history.now) (string_bytes text)) }
+{
+    explained_by(rt, alloc, history, &OwnNames, Clients::Sessions, form)
+}
+
+/// The same with these names, whose clients the sessions are of.
+///
+/// Fails for want of memory alone. The cost is that of [`explained_long`].
 pub fn explained_as<T: Threads + Wait + Sync, N: Names>(
     rt: &T,
     alloc: Global,
@@ -38,10 +54,24 @@ pub fn explained_as<T: Threads + Wait + Sync, N: Names>(
 ) -> Result<String, AllocError>
     ensures { IfOk result (λ text. IsExplainedAs form (AnyHistory.Memory history.now) (string_bytes text)) }
 {
+    explained_by(rt, alloc, history, names, Clients::Named, form)
+}
+
+// The same, with the sessions those of these clients.
+fn explained_by<T: Threads + Wait + Sync, N: Names>(
+    rt: &T,
+    alloc: Global,
+    history: &LongHistory,
+    names: &N,
+    clients: Clients,
+    form: LongForm,
+) -> Result<String, AllocError>
+    ensures { IfOk result (λ text. IsExplainedBy clients form (AnyHistory.Memory history.now) (string_bytes text)) }
+{
     let work = WorkerThreads::of(rt, Workers::usual());
     match small(alloc, history)? {
-        Some(small) => small_as(&work, alloc, history, small, names, form),
-        None => larger_as(&work, alloc, history, names, form),
+        Some(small) => small_as(&work, alloc, history, small, names, clients, form),
+        None => larger_as(&work, alloc, history, names, clients, form),
     }
 }
 
@@ -51,13 +81,14 @@ fn larger_as<W: SessionWork, N: Names>(
     alloc: Global,
     history: &LongHistory,
     names: &N,
+    clients: Clients,
     form: LongForm,
 ) -> Result<String, AllocError>
     requires { W.can_work work.now }
-    ensures { IfOk result (λ text. IsExplainedAs form (AnyHistory.Memory history.now) (string_bytes text)) }
+    ensures { IfOk result (λ text. IsExplainedBy clients form (AnyHistory.Memory history.now) (string_bytes text)) }
 {
     let said = findings_of_long(work, alloc, history)?;
-    let text = text_of_larger(alloc, history, names, &said, form);
+    let text = text_of_larger(alloc, history, names, clients, &said, form);
     drop(said);
     text
 }
@@ -67,17 +98,35 @@ fn text_of_larger<N: Names>(
     alloc: Global,
     history: &LongHistory,
     names: &N,
+    clients: Clients,
     said: &LongFindings,
     form: LongForm,
 ) -> Result<String, AllocError>
     requires { EachIsFinding (AnyHistory.Memory history.now) said.now.findings }
-    ensures { IfOk result (λ text. IsExplainedAs form (AnyHistory.Memory history.now) (string_bytes text)) }
+    ensures { IfOk result (λ text. IsExplainedBy clients form (AnyHistory.Memory history.now) (string_bytes text)) }
 {
     match form {
         LongForm::Words => text_of_long(alloc, history, names, said),
-        LongForm::Json => findings_text(alloc, &said.findings),
+        LongForm::Json => json_of_larger(alloc, history, names, clients, &said.findings),
         LongForm::Picture => picture_of_long(alloc, history, names, said),
     }
+}
+
+// The JSON text of what is found of a history over the limits.
+fn json_of_larger<N: Names>(
+    alloc: Global,
+    _history: &LongHistory,
+    names: &N,
+    clients: Clients,
+    findings: &Findings,
+) -> Result<String, AllocError>
+    requires { EachIsFinding (AnyHistory.Memory _history.now) findings.now }
+    ensures { IfOk result (λ text. IsJsonOf clients (AnyHistory.Memory _history.now) (string_bytes text)) }
+{
+    let remarks = remarks_on_patterns(alloc, names, clients, findings)?;
+    let text = findings_text(alloc, findings, &remarks);
+    drop(remarks);
+    text
 }
 
 // The text on a history within the limits.
@@ -87,16 +136,17 @@ fn small_as<W: PieceWork, N: Names>(
     history: &LongHistory,
     small: History<Memory>,
     names: &N,
+    clients: Clients,
     form: LongForm,
 ) -> Result<String, AllocError>
     requires { W.can_check work.now }
-    ensures { IfOk result (λ text. IsExplainedAs form (AnyHistory.Memory small) (string_bytes text)) }
+    ensures { IfOk result (λ text. IsExplainedBy clients form (AnyHistory.Memory small) (string_bytes text)) }
 {
     match form {
         LongForm::Words => words_of_small(work, alloc, history, &small, names),
         LongForm::Json => {
             let small = AnyHistory::Memory(small);
-            let text = json_of_history(work, alloc, &small);
+            let text = json_with_names(work, alloc, &small, names, clients);
             small.discard();
             text
         }

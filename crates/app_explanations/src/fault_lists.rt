@@ -1,21 +1,27 @@
 //! Reads of a history that show a fault, in a list.
 
-ghost use Rattle.std.specs.Prelude.{◌≡◌, ◌∷◌, ◌++◌, [], codes, option_map, IfOk, OnOk, string_bytes};
+ghost use Rattle.std.specs.Prelude.{◌≡◌, ◌∷◌, ◌++◌, ℕ, [], codes, option_map, IfOk, OnOk, string_bytes};
 ghost use Rattle.serde_json.specs.View.{view};
 ghost use Rattle.serde_json.specs.Written.{compact_text};
 ghost use Rattle.json_histories.specs.AnyForm.{IsJson};
 ghost use Rattle.json_histories.specs.Json.{list};
+ghost use Rattle.json_histories.specs.declared.any_history.AnyHistory.{AnyHistory as Whole};
 ghost use Rattle.app_findings.specs.Findings.{EachIsFinding};
 ghost use Rattle.app_explanations.specs.ExplainingInWords.{TellsEach};
+ghost use Rattle.app_explanations.specs.declared.clients.Clients.{Clients as Told};
+ghost use Rattle.app_explanations.specs.declared.clients.Clients.TheVariants.{Sessions};
 ghost use Rattle.app_explanations.specs.ListingFaults.{AreFaultsIn, fault_report_form, list_form};
-ghost use Rattle.app_explanations.specs.ListTexts.{AreLinesAfter, IsListInWords, IsListOf, IsLongOf};
+ghost use Rattle.app_explanations.specs.ListTexts.{AreLinesAfter, IsListBy, IsListInWords, IsListOf, IsLongOf};
+ghost use Rattle.app_explanations.specs.Remarks.{EachIsRemark};
 
+use crate::clients::Clients;
 use crate::examined::Examined;
 use crate::finding_forms::findings_value;
 use crate::finding_lines::lines_of_finding;
 use crate::finding_text::{indented_text, text_with_lines};
 use crate::long_explaining::{LongFindings, findings_of_long};
 use crate::long_words::lines_of_found;
+use crate::remarks::{Remarks, remarks_on, remarks_on_patterns};
 use crate::written::line_of_value;
 use app_command_line::ListForm;
 use app_findings::{Finding, Findings, Kept, PieceWork, findings_of, findings_of_memory};
@@ -30,7 +36,7 @@ use order_memory::IndexedMemory;
 use pattern_check::Kind;
 use serde_json::Value;
 use show_faults::{Faults, count_lines, fault_line, faults_value, find_faults};
-use show_words::Names;
+use show_words::{Names, OwnNames};
 use std::alloc::{AllocError, Global};
 use std::sync::Wait;
 use std::thread::Threads;
@@ -40,12 +46,28 @@ use std::thread::Threads;
 #[derive(Drop)]
 pub struct FaultReport {
     pub findings: Findings,
+    pub remarks: Remarks,
     pub faults: Option<Faults>,
 }
 
-/// The list of a memory history of any length, with these names.
+/// The list of a memory history of any length.
 ///
 /// Fails for want of memory alone. It costs what the findings cost, and O(n k) for n operations of k sessions.
+pub fn listed_long<T: Threads + Wait + Sync>(
+    rt: &T,
+    alloc: Global,
+    history: &LongHistory,
+    most: u32,
+    form: ListForm,
+) -> Result<String, AllocError>
+    ensures { IfOk result (λ text. IsListBy Sessions form most (AnyHistory.Memory history.now) (string_bytes text)) }
+{
+    list_of_long(rt, alloc, history, &OwnNames, Clients::Sessions, most, form)
+}
+
+/// The same with these names, whose clients the sessions are of.
+///
+/// Fails for want of memory alone. The cost is that of [`listed_long`].
 pub fn list_in_long<T: Threads + Wait + Sync, N: Names>(
     rt: &T,
     alloc: Global,
@@ -56,37 +78,68 @@ pub fn list_in_long<T: Threads + Wait + Sync, N: Names>(
 ) -> Result<String, AllocError>
     ensures { IfOk result (λ text. IsListOf form most (AnyHistory.Memory history.now) (string_bytes text)) }
 {
+    list_of_long(rt, alloc, history, names, Clients::Named, most, form)
+}
+
+// The same, with the sessions those of these clients.
+fn list_of_long<T: Threads + Wait + Sync, N: Names>(
+    rt: &T,
+    alloc: Global,
+    history: &LongHistory,
+    names: &N,
+    clients: Clients,
+    most: u32,
+    form: ListForm,
+) -> Result<String, AllocError>
+    ensures { IfOk result (λ text. IsListBy clients form most (AnyHistory.Memory history.now) (string_bytes text)) }
+{
+    let work = WorkerThreads::of(rt, Workers::usual());
     match small(alloc, history)? {
         Some(small) => {
             let small = AnyHistory::Memory(small);
-            list_in_limited(rt, alloc, small, Some(history), names, most, form)
+            let text = match form {
+                ListForm::Words => {
+                    words_in_limited(&work, alloc, &small, Some(history), names, most)
+                }
+                ListForm::Json => {
+                    json_in_limited(&work, alloc, &small, Some(history), names, clients, most)
+                }
+            };
+            small.discard();
+            text
         }
-        None => {
-            let work = WorkerThreads::of(rt, Workers::usual());
-            list_in_larger(&work, alloc, history, names, most, form)
-        }
+        None => list_in_larger(&work, alloc, history, names, clients, most, form),
     }
 }
 
 /// The list of a history within the limits. A memory history is given a second time, as one of any length.
 ///
 /// Fails for want of memory alone. It costs what the findings cost, and O(n k) for n operations of k sessions.
-pub fn list_in_limited<T: Threads + Wait + Sync, N: Names>(
+pub fn list_in_limited<T: Threads + Wait + Sync>(
     rt: &T,
     alloc: Global,
     history: AnyHistory,
     long: Option<&LongHistory>,
-    names: &N,
     most: u32,
     form: ListForm,
 ) -> Result<String, AllocError>
     requires { IsLongOf history (option_map (λ g. g.now) long) }
-    ensures { IfOk result (λ text. IsListOf form most history (string_bytes text)) }
+    ensures { IfOk result (λ text. IsListBy Sessions form most history (string_bytes text)) }
 {
     let work = WorkerThreads::of(rt, Workers::usual());
     let text = match form {
-        ListForm::Words => words_in_limited(&work, alloc, &history, long, names, most),
-        ListForm::Json => json_in_limited(&work, alloc, &history, long, names, most),
+        ListForm::Words => words_in_limited(&work, alloc, &history, long, &OwnNames, most),
+        ListForm::Json => {
+            json_in_limited(
+                &work,
+                alloc,
+                &history,
+                long,
+                &OwnNames,
+                Clients::Sessions,
+                most,
+            )
+        }
     };
     history.discard();
     text
@@ -191,18 +244,17 @@ fn json_in_limited<W: PieceWork, N: Names>(
     history: &AnyHistory,
     long: Option<&LongHistory>,
     names: &N,
+    clients: Clients,
     most: u32,
 ) -> Result<String, AllocError>
     requires can_check { W.can_check work.now }
     requires long { IsLongOf history.now (option_map (λ g. g.now) long) }
-    ensures { IfOk result (λ text. IsListOf ListForm.Json most history.now (string_bytes text)) }
+    ensures { IfOk result (λ text. IsListBy clients ListForm.Json most history.now (string_bytes text)) }
 {
     let faults = faults_of_any(alloc, history, long, names, most)?;
     let findings = findings_of(work, alloc, history, Kept::Patterns)?;
-    let report = FaultReport { findings, faults };
-    let text = text_of_report(alloc, &report);
-    drop(report);
-    text
+    let remarks = remarks_on(alloc, history, names, clients, &findings);
+    text_of_parts(alloc, findings, remarks, faults)
 }
 
 // The list of a history over the limits.
@@ -211,11 +263,12 @@ fn list_in_larger<W: SessionWork, N: Names>(
     alloc: Global,
     history: &LongHistory,
     names: &N,
+    clients: Clients,
     most: u32,
     form: ListForm,
 ) -> Result<String, AllocError>
     requires { W.can_work work.now }
-    ensures { IfOk result (λ text. IsListOf form most (AnyHistory.Memory history.now) (string_bytes text)) }
+    ensures { IfOk result (λ text. IsListBy clients form most (AnyHistory.Memory history.now) (string_bytes text)) }
 {
     let said = findings_of_long(work, alloc, history)?;
     match form {
@@ -227,7 +280,7 @@ fn list_in_larger<W: SessionWork, N: Names>(
         ListForm::Json => {
             let LongFindings { findings, found } = said;
             drop(found);
-            json_in_larger(alloc, history, names, findings, most)
+            json_in_larger(alloc, history, names, clients, findings, most)
         }
     }
 }
@@ -253,18 +306,17 @@ fn json_in_larger<N: Names>(
     alloc: Global,
     history: &LongHistory,
     names: &N,
+    clients: Clients,
     findings: Findings,
     most: u32,
 ) -> Result<String, AllocError>
     requires { EachIsFinding (AnyHistory.Memory history.now) findings }
-    ensures { IfOk result (λ text. IsListOf ListForm.Json most (AnyHistory.Memory history.now) (string_bytes text)) }
+    ensures { IfOk result (λ text. IsListBy clients ListForm.Json most (AnyHistory.Memory history.now) (string_bytes text)) }
 {
     match faults_of(alloc, history, names, most) {
         Ok(faults) => {
-            let report = FaultReport { findings, faults };
-            let text = text_of_report(alloc, &report);
-            drop(report);
-            text
+            let remarks = remarks_on_patterns(alloc, names, clients, &findings);
+            text_of_parts(alloc, findings, remarks, faults)
         }
         Err(no_memory) => {
             drop(findings);
@@ -367,6 +419,35 @@ fn one_line(alloc: Global, words: &'static str) -> Result<Vec<String>, AllocErro
     Ok(lines)
 }
 
+// The JSON text of a report of these parts, if there are remarks.
+fn text_of_parts(
+    alloc: Global,
+    findings: Findings,
+    remarks: Result<Remarks, AllocError>,
+    faults: Option<Faults>,
+) -> Result<String, AllocError>
+    ensures { (clients : Told) (most : ℕ) (history : Whole) → EachIsFinding history findings
+        → IfOk remarks (EachIsRemark clients history findings) → AreFaultsIn most history faults
+        → IfOk result (λ text. IsListBy clients ListForm.Json most history (string_bytes text)) }
+{
+    match remarks {
+        Ok(remarks) => {
+            let report = FaultReport {
+                findings,
+                remarks,
+                faults,
+            };
+            let text = text_of_report(alloc, &report);
+            drop(report);
+            text
+        }
+        Err(no_memory) => {
+            drop((findings, faults));
+            Err(no_memory)
+        }
+    }
+}
+
 // The JSON text of a report, and a line feed.
 fn text_of_report(alloc: Global, report: &FaultReport) -> Result<String, AllocError>
     ensures whole { IfOk result (λ text. string_bytes text ≡ compact_text (fault_report_form report.now) ++ codes "\n") }
@@ -380,7 +461,7 @@ fn text_of_report(alloc: Global, report: &FaultReport) -> Result<String, AllocEr
 fn value_of_report(alloc: Global, report: &FaultReport) -> Result<Value, AllocError>
     ensures { IfOk result (λ value. view value ≡ fault_report_form report.now) }
 {
-    let findings = findings_value(alloc, &report.findings)?;
+    let findings = findings_value(alloc, &report.findings, &report.remarks)?;
     let faults = value_of_faults(alloc, &report.faults)?;
     let mut values = Vec::new(alloc);
     values.push(findings)?;

@@ -3,6 +3,8 @@
 ghost use Rattle.std.specs.Prelude.{IfOk, IfSome, string_bytes};
 ghost use Rattle.show_pictures.specs.Markup.{IsSvgElement};
 
+use crate::broken::broken_by;
+use crate::clients::Clients;
 use crate::core_names::CoreNames;
 use crate::long_explaining::LongFindings;
 use crate::picturing::title_of;
@@ -12,7 +14,7 @@ use json_histories::History;
 use judge_cores::Gathered;
 use judge_memory::LongHistory;
 use model_objects::{Memory, Table};
-use show_pictures::{picture_of_history, picture_of_pattern};
+use show_pictures::{Reason, picture_of_history, picture_of_pattern};
 use show_words::{Names, OwnNames};
 use std::alloc::{AllocError, Global};
 
@@ -65,13 +67,17 @@ fn picture_of_found<N: Names>(
     let Some(Gathered::Core(core)) = said.gathered(pattern.kind()) else {
         return Ok(None);
     };
+    let reason = Reason {
+        criterion,
+        pattern: core.pattern(),
+        broken: broken_by(alloc, names, Clients::Named, pattern)?,
+    };
     let names = CoreNames {
         core,
         sessions: history.sessions(),
         whole: names,
     };
-    let svg = picture_of_pattern(alloc, core.history(), &names, criterion, core.pattern())?;
-    Ok(Some(svg))
+    Ok(Some(picture_of_pattern(alloc, core.history(), &names, reason)?))
 }
 
 // The picture of what is known of each criterion, and of no operation.

@@ -3,12 +3,14 @@
 ghost use Rattle.std.specs.Prelude.{IfOk, IfSome, string_bytes};
 ghost use Rattle.show_pictures.specs.Markup.{IsSvgElement};
 
+use crate::broken::broken_by;
+use crate::clients::Clients;
 use crate::report::report_line;
 use app_findings::{Finding, Findings};
 use cert_check::Criterion;
 use json_histories::{AnyHistory, History, OpId};
 use model_objects::Memory;
-use show_pictures::{Labelled, picture_of_history, picture_of_pattern};
+use show_pictures::{Labelled, Reason, picture_of_history, picture_of_pattern};
 use show_words::Names;
 use std::alloc::{AllocError, Global};
 
@@ -82,8 +84,13 @@ fn picture_of_finding<N: Names>(
 {
     match finding {
         Finding::Shown(pattern) => {
-            let svg = picture_of_pattern(alloc, history, names, criterion, pattern)?;
-            Ok(Some(svg))
+            let broken = broken_by(alloc, names, Clients::Named, pattern)?;
+            let reason = Reason {
+                criterion,
+                pattern,
+                broken,
+            };
+            Ok(Some(picture_of_pattern(alloc, history, names, reason)?))
         }
         Finding::Met(_) | Finding::Present(_) | Finding::Unexplained(_, _) => Ok(None),
     }

@@ -1,3 +1,4 @@
 pub mod CutLines
 pub mod Faults
+pub mod NoteTexts
 pub mod Watched

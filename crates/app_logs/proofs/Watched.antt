@@ -13,10 +13,13 @@ use Rattle.log_reader.specs.Logs.{Follow, IsLogOf, Log, ended_lines, no_log}
 use Rattle.log_reader.specs.ReadSteps.{ReadsAll, ReadsMore}
 use Rattle.log_reader.specs.Readings.{Extends, HasRead, Reading}
 use Rattle.app_logs.specs.declared.following.Followed.{Followed}
-use Rattle.app_logs.specs.LogAnswers.{IsLogOfFront, WatchesLog, WritesFirstCuts}
+use Rattle.app_logs.specs.declared.late_writes.LateWrite.{LateWrite}
+use Rattle.app_logs.specs.declared.turn.Turn.{Turn}
+use Rattle.app_logs.specs.declared.turn.Turn.TheVariants.{On, Stopped, Ended}
+use Rattle.app_logs.specs.LogAnswers.{IsLogOfFront, WatchesLog, WritesCutsUpTo, WritesFirstCuts}
 use Rattle.app_engine.specs.Expecting.{outcome_for}
 use Rattle.app_logs.specs.Reports.{AreCuts, AreCutLines, cut_line, multiples}
-use Rattle.app_logs.specs.Steps.Watching.{HasWatched, IsTurn, WritesCut, WritesLast}
+use Rattle.app_logs.specs.Steps.Watching.{GoesOnBy, HasWatched, IsTurn, WritesCut, WritesLast}
 use Rattle.app_logs.proofs.CutLines.{lines-all, lines-none, multiples-kept, multiples-then}
 
 -- the lines that were read are the first ones of what the source had
@@ -140,11 +143,10 @@ module _ (every : ℕ) (expected : Expected) (first written : Option (List ℕ))
       → (watched : HasWatched every expected first before written writer_before old count)
       → Consumes before source_after taken → HasRead (watched.text ++ taken) new → Extends old.log new.log
       → length new.log.events ≡ every * suc count → WritesCut expected new.log.events writer_before writer_after followed.outcome
-      → followed.outcome ≢ Met → followed.torn ≡ false
-      → WatchesLog every expected first source_after written writer_after followed
+      → followed.outcome ≢ Met → followed.torn ≡ false → WritesCutsUpTo every expected first written writer_after followed
   stops before source_after writer_before writer_after old new count taken followed watched consumed read extends events cut early whole =
       let more = watched-more before source_after source_after writer_before writer_after old new count taken followed.outcome watched consumed read extends events cut in
-      inr record {
+      record {
         log = new.log;
         count = suc count;
         text = more.0;
@@ -189,6 +191,32 @@ module _ (every : ℕ) (expected : Expected) (first written : Option (List ℕ))
     written = Appends-trans written writer_before writer_after watched.said (cut_line (length new.log.events) cut.1.report) watched.written cut.1.written;
   }
 
+  -- what is known of a late write is no part of what was watched
+  pub watched-with : (source_after writer_after : Option (List ℕ)) (followed : Followed) (late : Option LateWrite)
+      → WatchesLog every expected first source_after written writer_after followed
+      → WatchesLog every expected first source_after written writer_after (record { outcome = followed.outcome; torn = followed.torn; late = late })
+  watched-with source_after writer_after followed late (inl all) = inl record {
+    log = all.log;
+    cuts = all.cuts;
+    text = all.text;
+    whole = all.whole;
+    end = all.end;
+    are_cuts = all.are_cuts;
+    lines = all.lines;
+    written = all.written;
+  }
+  watched-with source_after writer_after followed late (inr front) = inr record {
+    log = front.log;
+    count = front.count;
+    text = front.text;
+    front = front.front;
+    events = front.events;
+    lines = front.lines;
+    written = front.written;
+    early = front.early;
+    whole_line = front.whole_line;
+  }
+
   -- what was written stays where something fails
   pub first-cuts : (after writer_after : Option (List ℕ)) (reading : Reading) (count : ℕ)
       → HasWatched every expected first after written writer_after reading count → WritesFirstCuts every expected first written writer_after
@@ -223,23 +251,24 @@ module _ (every : ℕ) (expected : Expected) (first written : Option (List ℕ))
       let next : every * suc count ≡ every * count + every = omega arith in omega arith
 
   pub turned-more : (before source_after writer_before writer_after : Option (List ℕ)) (old new : Reading) (count judged wanted : ℕ) (es : List Event)
-      (outcome : Outcome) (result : Option Followed) → HasWatched every expected first before written writer_before old count
+      (outcome : Outcome) (result : Turn) → HasWatched every expected first before written writer_before old count
       → ReadsMore before source_after old new → Extends old.log new.log → judged ≡ length old.log.events → wanted ≡ judged + every
       → wanted ≤ length new.log.events → length new.log.events ≤ max wanted (length old.log.events)
-      → es ≡ new.log.events → WritesCut expected es writer_before writer_after outcome
-      → IfSome result (λ followed. (followed ≡ record { outcome = outcome; torn = false }) × (outcome ≢ Met)) → (result ≡ None → outcome ≡ Met)
+      → es ≡ new.log.events → WritesCut expected es writer_before writer_after outcome → GoesOnBy outcome result
       → IsTurn every expected first source_after written writer_after new count result
-  turned-more before source_after writer_before writer_after old new count judged wanted es outcome None watched reads extends so_far is enough few same cut some none =
+  turned-more before source_after writer_before writer_after old new count judged wanted es outcome On watched reads extends so_far is enough few same cut met =
       let more = reads watched.text watched.read in
       goes-on before source_after writer_before writer_after old new count more.0 outcome watched more.1 more.2 extends
       (next-count count wanted old.log.events new.log.events watched.events (is ∙ ap (λ n. n + every) so_far) enough few)
-      (subst (λ (l : List Event). WritesCut expected l writer_before writer_after outcome) same cut) (none refl)
-  turned-more before source_after writer_before writer_after old new count judged wanted es outcome (Some followed) watched reads extends so_far is enough few same cut some none =
+      (subst (λ (l : List Event). WritesCut expected l writer_before writer_after outcome) same cut) met
+  turned-more before source_after writer_before writer_after old new count judged wanted es outcome (Stopped followed) watched reads extends so_far is enough few same cut stopped =
       let more = reads watched.text watched.read in
-      subst (λ (f : Followed). WatchesLog every expected first source_after written writer_after f) (sym some.0)
-      (stops before source_after writer_before writer_after old new count more.0 (record { outcome = outcome; torn = false }) watched more.1 more.2 extends
+      subst (λ (f : Followed). WritesCutsUpTo every expected first written writer_after f) (sym stopped.0)
+      (stops before source_after writer_before writer_after old new count more.0 (record { outcome = outcome; torn = false; late = None }) watched more.1 more.2 extends
       (next-count count wanted old.log.events new.log.events watched.events (is ∙ ap (λ n. n + every) so_far) enough few)
-      (subst (λ (l : List Event). WritesCut expected l writer_before writer_after outcome) same cut) some.1 refl)
+      (subst (λ (l : List Event). WritesCut expected l writer_before writer_after outcome) same cut) stopped.1 refl)
+  turned-more before source_after writer_before writer_after old new count judged wanted es outcome (Ended followed) watched reads extends so_far is enough few same cut never =
+      absurd never
 
   at-most : (count wanted : ℕ) (es more : List Event) → length es ≡ every * count → wanted ≡ length es + every
       → length more ≤ max wanted (length es) → length more ≤ every * suc count
@@ -250,9 +279,9 @@ module _ (every : ℕ) (expected : Expected) (first written : Option (List ℕ))
       → ReadsAll before source_after old new torn → Extends old.log new.log → judged ≡ length old.log.events → wanted ≡ judged + every
       → length new.log.events ≤ max wanted (length old.log.events)
       → es ≡ new.log.events → WritesLast expected es judged writer_before writer_after outcome
-      → WatchesLog every expected first source_after written writer_after (record { outcome = outcome; torn = torn })
+      → WatchesLog every expected first source_after written writer_after (record { outcome = outcome; torn = torn; late = None })
   turned-end before source_after writer_before writer_after old new count judged wanted es outcome torn watched reads extends so_far is few same last =
-      ends before source_after writer_before writer_after old new count (record { outcome = outcome; torn = torn }) watched (reads.log watched.text watched.read)
+      ends before source_after writer_before writer_after old new count (record { outcome = outcome; torn = torn; late = None }) watched (reads.log watched.text watched.read)
       reads.end extends
       (at-most count wanted old.log.events new.log.events watched.events (is ∙ ap (λ n. n + every) so_far) few)
       (subst (λ (n : ℕ). WritesLast expected new.log.events n writer_before writer_after outcome) (so_far ∙ watched.events)

@@ -5,7 +5,7 @@ use Rattle.serde_json.specs.Written.{compact_text}
 use Rattle.app_command_line.specs.declared.expected.Expected.{Expected}
 use Rattle.app_command_line.specs.Expected.{expecting_nothing}
 use Rattle.app_command_line.specs.declared.log_order.LogOrder.{LogOrder}
-use Rattle.app_command_line.specs.declared.log_order.LogOrder.TheVariants.{Judge, Explain, ListFaults, WriteHistory, WriteNames}
+use Rattle.app_command_line.specs.declared.log_order.LogOrder.TheVariants.{Judge, Explain, ListFaults, WriteHistory, WriteNames, WriteNotes}
 use Rattle.json_lines.specs.declared.outcome.Outcome.{Outcome}
 use Rattle.json_lines.specs.declared.outcome.Outcome.TheVariants.{Met}
 use Rattle.json_histories.specs.AnyForm.{form_of}
@@ -18,6 +18,7 @@ use Rattle.log_reader.specs.Logs.{BeginsBy, IsLogOf, IsRefusedLog, Log}
 use Rattle.app_logs.specs.declared.failure.LogError.{LogError}
 use Rattle.app_logs.specs.declared.failure.LogError.TheVariants.{Refused}
 use Rattle.app_logs.specs.declared.following.Followed.{Followed}
+use Rattle.app_logs.specs.Notes.{AreNotes}
 use Rattle.app_logs.specs.Reports.{AreCuts, AreCutLines, IsReportOn, any_history_of, multiples}
 
 -- the text answers a log that was read whole, and this comes of it
@@ -28,6 +29,7 @@ IsLogAnswer (Explain form) log text outcome = IsExplainedAs form (any_history_of
 IsLogAnswer (ListFaults most form) log text outcome = IsListOf form most (any_history_of log.events) text × (outcome ≡ Met)
 IsLogAnswer WriteHistory log text outcome = (text ≡ compact_text (form_of (any_history_of log.events)) ++ codes "\n") × (outcome ≡ Met)
 IsLogAnswer WriteNames log text outcome = outcome ≡ Met
+IsLogAnswer WriteNotes log text outcome = AreNotes text × (outcome ≡ Met)
 
 -- a log was read whole, and the answer to it was written after what the writer held: where the reader and the writer tell their bytes
 pub record AnswersLog (order : LogOrder) (reader_before reader_after writer_before writer_after : Option (List ℕ)) (followed : Followed) : Type 0 where

@@ -2,16 +2,19 @@
 
 ghost use Rattle.std.specs.Prelude.{◌≡◌, ◌≢◌, IfErr, IfOk, string_bytes};
 ghost use Rattle.log_reader.specs.Logs.{Log};
+ghost use Rattle.app_explanations.specs.Report.{text_for};
+ghost use Rattle.app_engine.specs.Expecting.{outcome_for};
 ghost use Rattle.app_logs.specs.LogAnswers.{AnswersLog, IsLogAnswer, IsLogError};
 
-use crate::explaining::{explained_log, listed_log};
 use crate::failure::LogError;
 use crate::following::Followed;
 use crate::judging::report_on_last_log;
-use crate::reading::read_log;
+use crate::logged_run::LoggedRun;
+use crate::noting::notes_text;
+use crate::reading::{WholeLog, read_log};
 use crate::writing::{history_text, names_text};
 use app_command_line::{LogJudging, LogOrder};
-use app_engine::{Answered, WorkerThreads, outcome_of, report_text, write_output};
+use app_engine::{Answered, Findings, WorkerThreads, outcome_of, report_text, write_output};
 use json_lines::Source;
 use log_reader::EventReader;
 use std::alloc::Global;
@@ -37,51 +40,63 @@ pub(crate) fn answer_log<P: Threads + Wait + Sync + AllocGlobal, R: Source, W: W
 {
     let whole = read_log(rt.alloc(), source, shows_notes(order), told)?;
     let torn = whole.torn;
-    let answer = answer_to(rt, rt.alloc(), whole.reader, order)?;
+    let answer = answer_to(rt, rt.alloc(), whole, order)?;
     write_output(writer, answer.text.as_bytes())?;
     Ok(Followed {
         outcome: answer.outcome,
         torn,
+        late: None,
     })
 }
 
 // Whether the answer to a log shows notes.
 fn shows_notes(order: &LogOrder) -> bool {
     match order {
-        LogOrder::Explain(_) | LogOrder::ListFaults(_, _) => true,
+        LogOrder::Explain(_) | LogOrder::ListFaults(_, _) | LogOrder::WriteNotes => true,
         LogOrder::Judge(_) | LogOrder::WriteHistory | LogOrder::WriteNames => false,
     }
 }
 
-// The answer to a log.
+// The answer to a log. What it is not made of is let go of, or is not made.
 fn answer_to<T: Threads + Wait + Sync>(
     rt: &T,
     alloc: Global,
-    reader: EventReader,
+    whole: WholeLog,
     order: &LogOrder,
 ) -> Result<Answered, LogError>
-    ensures answer { IfOk result (λ answer. IsLogAnswer order.now reader.log (string_bytes answer.text) answer.outcome) }
+    ensures answer { IfOk result (λ answer. IsLogAnswer order.now whole.reader.log (string_bytes answer.text) answer.outcome) }
     ensures error { IfErr result (λ e. e ≡ LogError.Memory) }
 {
     match order {
-        LogOrder::Judge(judging) => judged_log(rt, alloc, reader, *judging),
-        LogOrder::Explain(form) => {
-            let text = explained_log(rt, alloc, &reader, *form);
-            drop(reader);
-            Ok(Answered::met(text?))
+        LogOrder::Judge(judging) => judged_log(rt, alloc, whole.reader, *judging),
+        LogOrder::Explain(_) | LogOrder::ListFaults(_, _) => {
+            let run = LoggedRun::of(alloc, whole)?;
+            let answer = run.answer(rt, alloc, order);
+            drop(run);
+            answer
         }
-        LogOrder::ListFaults(most, form) => {
-            let text = listed_log(rt, alloc, &reader, *most, *form);
-            drop(reader);
-            Ok(Answered::met(text?))
-        }
-        LogOrder::WriteHistory => Ok(Answered::met(history_text(alloc, reader)?)),
+        LogOrder::WriteHistory => written_history(alloc, whole.reader),
         LogOrder::WriteNames => {
-            let text = names_text(alloc, &reader);
-            drop(reader);
+            let text = names_text(alloc, &whole.reader);
+            drop(whole);
+            Ok(Answered::met(text?))
+        }
+        LogOrder::WriteNotes => {
+            let text = notes_text(alloc, &whole.reader);
+            drop(whole);
             Ok(Answered::met(text?))
         }
     }
+}
+
+// The history of a log as a text. The log is dropped before that is written.
+fn written_history(alloc: Global, reader: EventReader) -> Result<Answered, LogError>
+    ensures answer { IfOk result (λ answer.
+        IsLogAnswer LogOrder.WriteHistory reader.log (string_bytes answer.text) answer.outcome) }
+    ensures error { IfErr result (λ e. e ≡ LogError.Memory) }
+{
+    let history = reader.into_log().history(alloc)?;
+    Ok(Answered::met(history_text(alloc, &history)?))
 }
 
 // The report on a log. The names are dropped before the history is made.
@@ -97,6 +112,21 @@ fn judged_log<T: Threads + Wait + Sync>(
 {
     let work = WorkerThreads::of(rt, judging.workers);
     let report = report_on_last_log(&work, alloc, reader.into_log())?;
+    answer_of_report(alloc, report, judging)
+}
+
+/// The answer that a report gives.
+///
+/// Fails for want of memory alone.
+pub(crate) fn answer_of_report(
+    alloc: Global,
+    report: Findings,
+    judging: LogJudging,
+) -> Result<Answered, LogError>
+    ensures text { IfOk result (λ answer. string_bytes answer.text ≡ text_for report) }
+    ensures outcome { IfOk result (λ answer. answer.outcome ≡ outcome_for judging.expected report) }
+    ensures error { IfErr result (λ e. e ≡ LogError.Memory) }
+{
     let text = report_text(alloc, &report);
     let outcome = outcome_of(&report, judging.expected);
     drop(report);

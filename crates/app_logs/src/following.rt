@@ -5,6 +5,7 @@ ghost use Rattle.app_logs.specs.LogAnswers.{FollowsLog, IsLogError, WritesFirstC
 
 use crate::answering::answer_log;
 use crate::failure::LogError;
+use crate::late_writes::LateWrite;
 use crate::watching::{Watch, watch_log};
 use app_command_line::{LogJudging, LogOrder};
 use app_engine::WorkerThreads;
@@ -20,24 +21,37 @@ pub struct Followed {
     pub outcome: Outcome,
     /// Whether the log's last line is incomplete, and was skipped.
     pub torn: bool,
+    /// With `every` in the order, a write that begins only after a cut at which a read had returned its value, if one was read.
+    pub late: Option<LateWrite>,
+}
+
+/// What becomes of the rest of a log where the judging ends early.
+#[derive(Clone, Copy, Debug, PartialEq, Eq)]
+pub enum Rest {
+    /// It is not read: to read it might wait for what writes the log.
+    Unread,
+    /// It is read, so that a late write is found.
+    Read,
 }
 
 /// Carries out an order on the log that a source has, one event a line, and writes the answer.
 ///
 /// With `every` in the order, it judges the log after each so many events and at its end, and writes each line before it reads more; it
-/// ends early at the first cut whose outcome is not the expected one. Else it reads the whole log before it makes the answer, and makes
-/// the whole answer before it writes it.
+/// ends early at the first cut whose outcome is not the expected one. Then `rest` says whether it reads on to find a late write: it passes
+/// over what is refused there. Without `every` it reads the whole log before it makes the answer, and makes the whole answer before it
+/// writes it.
 ///
 /// Fails with the first line that is refused, for want of memory, and where the source or the writer fails; also with `Memory` if
 /// `every` is 0, which no command line gives. After every error except a write fault it has written nothing, or with `every` the lines
 /// on some first cuts, each as expected. Of a line that is refused it appends what `error_lines` says of it besides its reason.
 /// O(n (k + log n)) for a history of n operations in k sessions, for each cut, and the cost of
-/// reading.
+/// reading. Tests, not proofs, cover which late write it names.
 pub fn follow_log<P: Threads + Wait + Sync + AllocGlobal, R: Source, W: Write>(
     rt: &P,
     source: &mut R,
     writer: &mut W,
     order: &LogOrder,
+    rest: Rest,
     told: &mut String,
 ) -> Result<Followed, LogError>
     ensures followed { IfOk result (FollowsLog order.now (R.remaining source.old) (R.remaining source.new)
@@ -61,6 +75,7 @@ pub fn follow_log<P: Threads + Wait + Sync + AllocGlobal, R: Source, W: Write>(
                 alloc: rt.alloc(),
                 expected: *expected,
                 every: *every,
+                rest,
             };
             watch_log(&watch, source, writer, told)
         }

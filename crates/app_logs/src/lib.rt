@@ -1,17 +1,19 @@
 //! Answers to logs of events: the history of a log, judged, explained or written.
 //!
-//! It gives [`follow_log`], which carries out an order on a log, event by event as it is read, [`call_lines`], which gives the lines on
-//! which the calls of its operations begin, and [`LogError`], why a log has no answer. The engine gives the answers on a
-//! history; log_events and log_reader define which history a log has.
+//! It gives [`follow_log`], which carries out an order on a log, event by event as it is read, [`LoggedRun`], a log that was read once and
+//! answers any number of orders, and [`LogError`], why a log has no answer. The engine gives the answers on a history; log_events and
+//! log_reader define which history a log has.
 #![tactic(auto)]
 
 mod answering;
-mod explaining;
 mod failure;
 mod following;
 mod judging;
+mod late_writes;
 pub mod laws;
 mod line_numbers;
+mod logged_run;
+mod noting;
 mod reading;
 mod tables;
 mod telling;
@@ -20,6 +22,7 @@ mod watching;
 mod writing;
 
 pub use failure::{LogError, error_lines, status_of_error};
-pub use following::{Followed, follow_log};
+pub use following::{Followed, Rest, follow_log};
 pub use judging::report_on_log;
-pub use line_numbers::call_lines;
+pub use late_writes::LateWrite;
+pub use logged_run::LoggedRun;

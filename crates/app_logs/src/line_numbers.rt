@@ -1,40 +1,21 @@
-//! The lines of a log on which the calls of its operations begin.
+//! The lines of a log on which the calls of its operations begin and end.
 
-ghost use Rattle.std.specs.Prelude.{Some, IfErr};
-ghost use Rattle.app_logs.specs.LogAnswers.{IsLogError};
-
-use crate::failure::LogError;
-use crate::reading::read_log;
 use crate::tables::line_at;
 use log_events::LoggedCall;
 use log_reader::EventReader;
+use order_causal::Rows;
 use std::alloc::{AllocError, Global};
 
-/// The lines of a log on which the calls of its operations begin, as JSON and a line feed: for each session of its history a list with a
-/// line for each operation. Lines are counted from 1.
-///
-/// A lost write that was read is three operations with one line. Fails with the first line that is refused, and for want of memory.
-/// O(n log n) for n calls, and the cost of reading. Tests, not proofs, cover which lines it names.
-pub fn call_lines(alloc: Global, log: &[u8]) -> Result<String, LogError>
-    ensures { IfErr result (IsLogError (Some log.now)) }
-{
-    let mut rest = log;
-    let mut told = String::new(alloc);
-    let whole = read_log(alloc, &mut rest, false, &mut told)?;
-    let text = lines_text(alloc, &whole.reader);
-    drop(whole);
-    match text {
-        Ok(text) => Ok(text),
-        Err(_) => Err(LogError::Memory),
-    }
-}
-
-fn lines_text(alloc: Global, reader: &EventReader) -> Result<String, AllocError> {
-    let sessions = reader.log().origins(alloc)?;
+/// The lines of calls, given for each session of the history, as JSON and a line feed.
+pub(crate) fn lines_text(
+    alloc: Global,
+    reader: &EventReader,
+    sessions: &Rows<LoggedCall>,
+) -> Result<String, AllocError> {
     let mut text = String::from_str(alloc, "[")?;
     for session in 0..sessions.len() {
         push_comma(&mut text, session)?;
-        push_lines(alloc, &mut text, reader, sessions.get(session))?;
+        push_session(alloc, &mut text, reader, sessions.get(session))?;
     }
     text.push_str("]\n")?;
     Ok(text)
@@ -50,7 +31,7 @@ fn push_comma(text: &mut String, place: usize) -> Result<(), AllocError> {
 }
 
 // Appends the list of the lines of calls to a text.
-fn push_lines(
+fn push_session(
     alloc: Global,
     text: &mut String,
     reader: &EventReader,
@@ -59,8 +40,24 @@ fn push_lines(
     text.push_str("[")?;
     for place in 0..calls.len() {
         push_comma(text, place)?;
-        let line = line_at(reader, calls[place].place());
-        text.push_str(&format!(in alloc; "{line}")?)?;
+        push_call(alloc, text, reader, calls[place].place())?;
     }
     text.push_str("]")
+}
+
+// Appends the line on which a call begins, and that of its end where that has a note.
+fn push_call(
+    alloc: Global,
+    text: &mut String,
+    reader: &EventReader,
+    place: u32,
+) -> Result<(), AllocError> {
+    let begin = line_at(reader, place);
+    match reader.note(alloc, place, true)? {
+        Some(note) => {
+            let end = note.line;
+            text.push_str(&format!(in alloc; "[{begin},{end}]")?)
+        }
+        None => text.push_str(&format!(in alloc; "{begin}")?),
+    }
 }

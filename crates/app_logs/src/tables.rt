@@ -1,34 +1,10 @@
 //! What a log that was read says about the operations of its history, and about its names.
 
+use crate::logged_run::LoggedRun;
 use json_histories::OpId;
-use log_events::LoggedCall;
 use log_reader::{EventReader, Names, Note};
-use order_causal::Rows;
 use show_log_names::{CallNote, LogTables, StoodFor};
 use std::alloc::{AllocError, Global};
-
-/// What a log that was read says about the operations of its history, and about its names.
-#[derive(Drop)]
-pub(crate) struct Tables<'a> {
-    reader: &'a EventReader,
-    /// For each session of the history, the calls that its operations represent.
-    calls: Rows<LoggedCall>,
-    /// The keys with reads that are left out, each with the number of these reads.
-    left_out: Vec<(u32, u32)>,
-}
-
-impl<'a> Tables<'a> {
-    /// The tables of a log.
-    ///
-    /// Fails for want of memory alone. O(n log n) for n calls.
-    pub(crate) fn of(alloc: Global, reader: &'a EventReader) -> Result<Tables<'a>, AllocError> {
-        Ok(Tables {
-            reader,
-            calls: reader.log().origins(alloc)?,
-            left_out: reader.log().left_out(alloc)?,
-        })
-    }
-}
 
 /// The line of the event at a place of a log, or 0 where there is none.
 pub(crate) fn line_at(reader: &EventReader, place: u32) -> u32 {
@@ -48,7 +24,7 @@ pub(crate) fn name_in(alloc: Global, names: &Names, number: u32) -> Result<Strin
     }
 }
 
-impl LogTables for Tables<'_> {
+impl LogTables for LoggedRun {
     fn stood_for(&self, op: OpId) -> Option<StoodFor> {
         let session = op.session_place();
         if session >= self.calls.len() {
@@ -68,7 +44,7 @@ impl LogTables for Tables<'_> {
     }
 
     fn line(&self, place: u32) -> u64 {
-        u64::from(line_at(self.reader, place))
+        u64::from(line_at(&self.reader, place))
     }
 
     fn client_name(&self, alloc: Global, client: u32) -> Result<String, AllocError> {

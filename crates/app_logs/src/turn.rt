@@ -4,9 +4,10 @@ ghost use Rattle.std.specs.Prelude.{◌≡◌, ◌≢◌, ◌⊎◌, IfErr, IfOk
 ghost use Rattle.std.specs.Io.KnownBytes.{Appends};
 ghost use Rattle.app_engine.specs.Expecting.{outcome_for};
 ghost use Rattle.app_logs.specs.Reports.{IsReportOn, cut_line};
-ghost use Rattle.app_logs.specs.Steps.Watching.{WritesCut};
+ghost use Rattle.app_logs.specs.Steps.Watching.{GoesOnBy, WritesCut};
 
 use crate::failure::LogError;
+use crate::following::Followed;
 use crate::judging::report_on_log;
 use app_command_line::Expected;
 use app_engine::{Findings, SessionWork, joined_text, outcome_of, write_output};
@@ -14,6 +15,31 @@ use json_lines::Outcome;
 use log_events::EventLog;
 use std::alloc::{AllocError, Global};
 use std::io::Write;
+
+/// What a turn comes to.
+#[derive(Clone, Copy)]
+pub(crate) enum Turn {
+    /// The outcome at the cut was the expected one, and the log may go on.
+    On,
+    /// It was not: the judging ends at this cut.
+    Stopped(Followed),
+    /// The log was read to its end.
+    Ended(Followed),
+}
+
+/// What the turn to a cut with this outcome comes to.
+pub(crate) fn turn_of(outcome: Outcome) -> Turn
+    ensures { GoesOnBy outcome result }
+{
+    match outcome {
+        Outcome::Met => Turn::On,
+        _ => Turn::Stopped(Followed {
+            outcome,
+            torn: false,
+            late: None,
+        }),
+    }
+}
 
 /// Judges the log so far, and writes the line on it.
 pub(crate) fn write_cut<K: SessionWork, W: Write>(

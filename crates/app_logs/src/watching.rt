@@ -6,9 +6,10 @@ ghost use Rattle.app_logs.specs.LogAnswers.{IsLogError, WatchesLog, WritesFirstC
 ghost use Rattle.app_logs.specs.Steps.Watching.{HasWatched, IsTurn, WritesLast};
 
 use crate::failure::LogError;
-use crate::following::Followed;
+use crate::following::{Followed, Rest};
+use crate::late_writes::CutEnds;
 use crate::telling::tell;
-use crate::turn::write_cut;
+use crate::turn::{Turn, turn_of, write_cut};
 use app_command_line::Expected;
 use app_engine::SessionWork;
 use json_lines::{Outcome, Source};
@@ -24,6 +25,7 @@ pub(crate) struct Watch<'a, K> {
     pub alloc: Global,
     pub expected: Expected,
     pub every: u32,
+    pub rest: Rest,
 }
 
 /// Judges a log after each so many events and at its end, and writes a line on each of these cuts before it reads on. It ends early at
@@ -44,16 +46,23 @@ pub(crate) fn watch_log<K: SessionWork, R: Source, W: Write>(
         (R.remaining source.old) (W.contents writer.old) (W.contents writer.new)) }
 {
     let mut reader = EventReader::new(watch.alloc)?;
-    let followed = watch_from(watch, &mut reader, source, writer);
-    tell(watch.alloc, &reader, &followed, told);
+    let mut ends = CutEnds::new(watch.alloc);
+    let watched = watch_from(watch, &mut reader, &mut ends, source, writer);
+    tell(watch.alloc, &reader, &watched, told);
+    let late = ends.late_write(watch.alloc, &reader);
+    drop(ends);
     drop(reader);
-    followed
+    match watched {
+        Ok(followed) => Ok(Followed { late, ..followed }),
+        Err(error) => Err(error),
+    }
 }
 
 // The same with a reader of logs that has read nothing.
 fn watch_from<K: SessionWork, R: Source, W: Write>(
     watch: &Watch<'_, K>,
     reader: &mut EventReader,
+    ends: &mut CutEnds,
     source: &mut R,
     writer: &mut W,
 ) -> Result<Followed, LogError>
@@ -66,8 +75,15 @@ fn watch_from<K: SessionWork, R: Source, W: Write>(
         (R.remaining source.old) (W.contents writer.old) (W.contents writer.new)) }
 {
     'cuts: for _ in 0..=MAX_EVENTS {
-        if let Some(followed) = watch.turn(reader, source, writer)? {
-            return Ok(followed);
+        let turn = watch.turn(reader, source, writer)?;
+        match turn {
+            Turn::On => ends.note(reader.log()),
+            Turn::Stopped(followed) => {
+                ends.note(reader.log());
+                watch.read_on(reader, source);
+                return Ok(followed);
+            }
+            Turn::Ended(followed) => return Ok(followed),
         }
     }
     Err(LogError::Memory)
@@ -85,13 +101,20 @@ fn next_cut(judged: u32, every: u32) -> Result<u32, LogError>
 }
 
 impl<K: SessionWork> Watch<'_, K> {
+    // Reads the rest of a log whose judging ended early, where that is wanted. What is refused there is passed over.
+    fn read_on<R: Source>(&self, reader: &mut EventReader, source: &mut R) {
+        if self.rest == Rest::Read {
+            let _ = reader.read(source, u32::MAX);
+        }
+    }
+
     // Reads on to the next cut, and writes the line on it. Returns the outcome for the log if that cut is the last one.
     fn turn<R: Source, W: Write>(
         &self,
         reader: &mut EventReader,
         source: &mut R,
         writer: &mut W,
-    ) -> Result<Option<Followed>, LogError>
+    ) -> Result<Turn, LogError>
         requires { K.can_work self.now.work.now }
         ensures turn { (first written : Option (List ℕ)) (count : ℕ)
             → HasWatched self.now.every self.now.expected first (R.remaining source.old) written (W.contents writer.old) reader.old count
@@ -116,11 +139,15 @@ impl<K: SessionWork> Watch<'_, K> {
                     reader.log(),
                     self.expected,
                 )?;
-                Ok(stopped(outcome))
+                Ok(turn_of(outcome))
             }
             Progress::End { torn } => {
                 let outcome = self.write_last(writer, reader.log(), judged)?;
-                Ok(Some(Followed { outcome, torn }))
+                Ok(Turn::Ended(Followed {
+                    outcome,
+                    torn,
+                    late: None,
+                }))
             }
         }
     }
@@ -141,19 +168,5 @@ impl<K: SessionWork> Watch<'_, K> {
             return Ok(Outcome::Met);
         }
         write_cut(self.work, self.alloc, writer, log, self.expected)
-    }
-}
-
-// The outcome for a log whose reading ends at a cut because the outcome there was not the expected one.
-fn stopped(outcome: Outcome) -> Option<Followed>
-    ensures some { IfSome result (λ followed. (followed ≡ record { outcome = outcome; torn = false }) × (outcome ≢ Outcome.Met)) }
-    ensures none { result ≡ None → outcome ≡ Outcome.Met }
-{
-    match outcome {
-        Outcome::Met => None,
-        _ => Some(Followed {
-            outcome,
-            torn: false,
-        }),
     }
 }

@@ -3,20 +3,20 @@
 ghost use Rattle.std.specs.Prelude.{◌≡◌, ◌++◌, IfErr, IfOk, codes, string_bytes};
 ghost use Rattle.serde_json.specs.Written.{compact_text};
 ghost use Rattle.json_histories.specs.AnyForm.{form_of};
-ghost use Rattle.app_logs.specs.Reports.{any_history_of};
 
+use json_histories::AnyHistory;
+use judge_memory::LongHistory;
 use judge_writer::write_long;
 use log_reader::{EventReader, Names};
 use std::alloc::{AllocError, Global};
 
-/// The history of a log, in the form that `judge` reads, and a line feed.
+/// A history, in the form that `judge` reads, and a line feed.
 ///
-/// Fails for want of memory alone. O(n log n) for n calls.
-pub(crate) fn history_text(alloc: Global, reader: EventReader) -> Result<String, AllocError>
-    ensures { IfOk result (λ text. string_bytes text ≡ compact_text (form_of (any_history_of reader.log.events)) ++ codes "\n") }
+/// Fails for want of memory alone. O(n) for n operations.
+pub(crate) fn history_text(alloc: Global, history: &LongHistory) -> Result<String, AllocError>
+    ensures { IfOk result (λ text. string_bytes text ≡ compact_text (form_of (AnyHistory.Memory history.now)) ++ codes "\n") }
 {
-    let history = reader.into_log().history(alloc)?;
-    let mut text = write_long(alloc, &history)?;
+    let mut text = write_long(alloc, history)?;
     text.push_str("\n")?;
     Ok(text)
 }

@@ -1,6 +1,9 @@
 -- Which page is written, and when none is.
-use Rattle.std.specs.Prelude.{◌≡◌, ◌<◌, ◌≤◌, ⊤, ℕ, List, Bool, Option, IfSome, codes, length}
+use Rattle.std.specs.Prelude.{◌≡◌, ◌<◌, ◌≤◌, ◌+◌, ◌-◌, ⊤, ℕ, List, Bool, Option, Some, None, IfSome, codes, length, option_and_then}
 use Rattle.std.specs.Io.KnownBytes.{Appends}
+use Rattle.serde_json.specs.Data.{Data}
+use Rattle.serde_json.specs.Find.{as_number, as_u64, pointer}
+use Rattle.serde_json.specs.Read.{read}
 use Rattle.app_command_line.specs.declared.form.Form.TheVariants as forms
 use Rattle.app_command_line.specs.declared.form.ListForm.TheVariants as list_forms
 use Rattle.app_command_line.specs.declared.form.LongForm.TheVariants as long_forms
@@ -35,53 +38,76 @@ abbrev pub picture_order : Length → Order
 picture_order Limited = Explain forms.Picture
 picture_order Any = ExplainLong long_forms.Picture
 
--- the part says of an input what is answered to it in words, in a list of so many reads, and as a picture
-pub record IsSaidOfInput (long : Length) (input part : List ℕ) : Type 0 where
+-- the whole number at a place of a JSON value, or 0
+abbrev pub or_zero : Option ℕ → ℕ
+or_zero None = 0
+or_zero (Some n) = n
+
+abbrev pub number_at : List ℕ → Data → ℕ
+number_at place d = or_zero (option_and_then as_u64 (option_and_then as_number (pointer place d)))
+
+-- how many reads show a fault, by a list of faults as JSON, which has a count for each of three kinds
+abbrev pub counted_reads : Data → ℕ
+counted_reads d = number_at (codes "/1/0/0/1") d + number_at (codes "/1/0/1/1") d + number_at (codes "/1/0/2/1") d
+
+abbrev pub CountsReads : List ℕ → ℕ → Type 0
+CountsReads report counted = (d : Data) × (read report ≡ Some d) × (counted ≡ counted_reads d)
+
+-- the part says of an input what is answered to it in words, in a list of so many reads, and as a picture; and how many reads more there
+-- are, as a list as JSON counts them
+pub record IsSaidOfInput (long : Length) (input report part : List ℕ) : Type 0 where
   pub words : List ℕ
   pub most : ℕ
+  pub counted : ℕ
   pub list : List ℕ
   pub picture : List ℕ
   pub are_words : IsOutput (words_order long) input words
+  pub is_counted : CountsReads report counted
   pub is_list : IsOutput (list_order most long) input list
   pub is_picture : IsOutput (picture_order long) input picture
-  pub is_said : part ≡ said words list picture
+  pub is_said : part ≡ said words (counted - most) list picture
 
 -- the text is the page of the input itself, and of what is answered to it
 pub record IsPageOfInput (most : ℕ) (long : Length) (input text : List ℕ) : Type 0 where
   pub report : List ℕ
   pub part : List ℕ
   pub output : IsOutput (listing_order most long) input report
-  pub is_said : IsSaidOfInput long input part
-  pub is_page : text ≡ page input report (codes "null") (codes "null") part
+  pub is_said : IsSaidOfInput long input report part
+  pub is_page : text ≡ page input report (codes "null") (codes "null") (codes "[]") part
 
--- the same of the one log that these bytes have
-pub record IsSaidOfLog (bytes part : List ℕ) : Type 0 where
-  pub log : EventLog
-  pub torn : Bool
-  pub of_bytes : IsLogOf bytes log torn
+-- the same of a log
+pub record IsSaidOfLog (log : EventLog) (report part : List ℕ) : Type 0 where
   pub words : List ℕ
   pub most : ℕ
+  pub counted : ℕ
   pub list : List ℕ
   pub picture : List ℕ
   pub are_words : IsLogAnswer (logs.Explain long_forms.Words) log words Met
+  pub is_counted : CountsReads report counted
   pub is_list : IsLogAnswer (logs.ListFaults most list_forms.Words) log list Met
   pub is_picture : IsLogAnswer (logs.Explain long_forms.Picture) log picture Met
-  pub is_said : part ≡ said words list picture
+  pub is_said : part ≡ said words (counted - most) list picture
 
--- the text is the page of what is answered to the one log that these bytes have, and of a text on its lines of which nothing is said
-pub record IsPageOfLog (most : ℕ) (torn : Bool) (bytes text : List ℕ) : Type 0 where
-  pub log : EventLog
-  pub of_bytes : IsLogOf bytes log torn
+-- the text is the page of what is answered to a log, and of a text on its lines of which nothing is said
+pub record IsPageOf (most : ℕ) (log : EventLog) (text : List ℕ) : Type 0 where
   pub history : List ℕ
   pub report : List ℕ
   pub names : List ℕ
   pub lines : List ℕ
+  pub notes : List ℕ
   pub part : List ℕ
   pub is_history : IsLogAnswer logs.WriteHistory log history Met
   pub is_report : IsLogAnswer (logs.ListFaults most list_forms.Json) log report Met
   pub are_names : IsLogAnswer logs.WriteNames log names Met
-  pub is_said : IsSaidOfLog bytes part
-  pub is_page : text ≡ page history report names lines part
+  pub are_notes : IsLogAnswer logs.WriteNotes log notes Met
+  pub is_said : IsSaidOfLog log report part
+  pub is_page : text ≡ page history report names lines notes part
+
+-- and of the one log that these bytes have
+pub record IsPageOfLog (most : ℕ) (torn : Bool) (bytes text : List ℕ) : Type 0 where
+  pub log : EventLog
+  pub of_bytes : IsLogOf bytes log torn
+  pub is_page : IsPageOf most log text
 
 -- an input of no more than so many bytes was read whole, and a page of it was written whole: what the reader had, where it tells its
 -- bytes, and what the writer holds after what it held, where it tells its bytes

@@ -8,17 +8,18 @@ ghost use Rattle.app_engine.specs.Running.{Fails, IsOutput, IsOutputError};
 ghost use Rattle.app_pages.specs.Writing.{IsPageOfInput, IsSaidOfInput, WritesPage, WritesPageOf};
 ghost use Rattle.app_pages.specs.Writing.{list_order, listing_order, picture_order, words_order};
 
+use crate::counting::reads_counted;
 use app_command_line::{Form, Length, ListForm, Listing, LongForm, Order};
 use app_engine::{MAX_READ_CALLS, RunError, answer_to, read_input_for, write_output};
 use json_lines::Source;
-use show_page::{MOST_SAID, page_of, said_of};
+use show_page::{MOST_SAID, PageTexts, page_of, said_of};
 use std::alloc::AllocError;
 use std::io::Write;
 use std::sync::Wait;
 use std::thread::Threads;
 
-/// Reads the whole input, lists its faults as JSON, and writes the page of the input and of that list, without names and lines, and with
-/// what `explain` says of the input in words, as a list and as a picture.
+/// Reads the whole input, lists its faults as JSON, and writes the page of the input and of that list, without names, lines and notes, and
+/// with what `explain` says of the input in words, as a list and as a picture.
 ///
 /// At most `most` faults are listed, of a history that may be of that length. The input is kept for the caller, who may say what is wrong
 /// with it; where it is too long or could not be read, what was kept before stays. Nothing is written before the page is made: after every
@@ -72,34 +73,38 @@ fn page_of_text<P: Threads + Wait + Sync + AllocGlobal>(
         form: ListForm::Json,
     });
     let report = answer_to(rt, rt.alloc(), input, &order)?;
-    let said = said_of_input(rt, input, most, length)?;
-    let page = page_of(
-        rt.alloc(),
-        input,
-        report.as_bytes(),
-        b"null",
-        b"null",
-        said.as_slice(),
-    )?;
+    let said = said_of_input(rt, input, report.as_bytes(), most, length)?;
+    let texts = PageTexts {
+        history: input,
+        report: report.as_bytes(),
+        names: b"null",
+        lines: b"null",
+        notes: b"[]",
+    };
+    let page = page_of(rt.alloc(), texts, said.as_slice())?;
     Ok(page)
 }
 
-// The part of the page of an input that is seen where no script runs.
+// The part of the page of an input, with a list of its faults as JSON, that is seen where no script runs.
 #[tactic(auto, using(crate::proofs::Joined::outputs_make_said))]
 fn said_of_input<P: Threads + Wait + Sync + AllocGlobal>(
     rt: &P,
     input: &[u8],
+    report: &[u8],
     most: u32,
     length: Length,
 ) -> Result<Vec<u8>, AllocError>
-    ensures { IfOk result (λ said. IsSaidOfInput length input.now said.items) }
+    ensures { IfOk result (λ said. IsSaidOfInput length input.now report.now said.items) }
 {
+    let most = most.min(MOST_SAID);
+    let counted = reads_counted(rt.alloc(), report)?;
     let words = text_for(rt, input, &order_of_words(length))?;
-    let list = text_for(rt, input, &order_of_list(most.min(MOST_SAID), length))?;
+    let list = text_for(rt, input, &order_of_list(most, length))?;
     let picture = text_for(rt, input, &order_of_picture(length))?;
     said_of(
         rt.alloc(),
         words.as_bytes(),
+        counted.saturating_sub(u64::from(most)),
         list.as_bytes(),
         picture.as_bytes(),
     )

@@ -4,7 +4,7 @@
 //! crate show_page says what a page is made of.
 #![tactic(auto)]
 
-mod answers;
+mod counting;
 mod failure;
 mod inputs;
 mod logs;

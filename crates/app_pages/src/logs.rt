@@ -1,32 +1,34 @@
 //! The page of a log.
 
-ghost use Rattle.std.specs.Prelude.{◌≡◌, ◌≢◌, Err, IfErr, IfOk, OnOk};
+ghost use Rattle.std.specs.Prelude.{◌≡◌, ◌≢◌, Err, IfErr, IfOk, OnOk, string_bytes};
 ghost use Rattle.std.specs.Io.KnownBytes.{IsAtEnd};
 ghost use Rattle.json_lines.specs.ReadCalls.{CallsAtMost};
 ghost use Rattle.app_engine.specs.ReadCalls.{FindsNoEnd};
 ghost use Rattle.app_engine.specs.declared.input.TheConstants.{MAX_INPUT_BYTES};
-ghost use Rattle.app_pages.specs.Writing.{FailsToWrite, IsPageOfLog, IsSaidOfLog, WritesPage};
-ghost use Rattle.app_pages.specs.Steps.Answers.{IsAnswerError};
+ghost use Rattle.log_reader.specs.Logs.{IsLogOf};
+ghost use Rattle.app_pages.specs.Writing.{FailsToWrite, IsPageOf, IsPageOfLog, IsSaidOfLog, WritesPage};
+ghost use Rattle.app_pages.specs.Steps.Answers.{IsAnswerError, IsAnswerTo, memory_error};
 
-use crate::answers::{answer_of, lines_of};
+use crate::counting::reads_counted;
 use crate::failure::PageError;
 use app_command_line::{ListForm, LogOrder, LongForm};
 use app_engine::{MAX_READ_CALLS, read_input, write_output};
-use app_logs::{Followed, LogError};
+use app_logs::{Followed, LogError, LoggedRun};
 use json_lines::{Outcome, Source};
-use show_page::{MOST_SAID, page_of, said_of};
+use show_page::{MOST_SAID, PageTexts, page_of, said_of};
+use std::alloc::Global;
 use std::io::Write;
 use std::sync::Wait;
 use std::thread::Threads;
 
-/// Reads a whole log, and writes the page of its history, of a list of its faults, of its names and of its lines, with what `explain` says
-/// of the log in words, as a list and as a picture.
+/// Reads a whole log, and writes the page of its history, of a list of its faults, and of its names, lines and notes, with what `explain`
+/// says of the log in words, as a list and as a picture.
 ///
 /// At most `most` faults are listed. A log is refused if it has more bytes than an input may have, or if one of its lines is refused. A
 /// last line that is not whole is passed over, and the result says so. What is told of a line that is refused is appended to `told`.
-/// Nothing is written before the page is made: after every error but a write fault the writer is as it was. The log is held in memory, and
-/// followed seven times: O(n (k + log n)) for a history of n operations
-/// in k sessions, and the cost of reading. It is tested, not proved, that the lines are those of the log.
+/// Nothing is written before the page is made: after every error but a write fault the writer is as it was. The log is held in memory and
+/// read once: O(n (k + log n)) for a history of n operations in k sessions, and the cost of reading. It is tested, not proved, that the
+/// lines and the notes are those of the log.
 pub fn page_of_log<P: Threads + Wait + Sync + AllocGlobal, R: Source, W: Write>(
     rt: &P,
     reader: &mut R,
@@ -52,6 +54,7 @@ pub fn page_of_log<P: Threads + Wait + Sync + AllocGlobal, R: Source, W: Write>(
     Ok(Followed {
         outcome: Outcome::Met,
         torn: page.torn,
+        late: None,
     })
 }
 
@@ -64,7 +67,6 @@ struct LogPage {
 }
 
 // The page of a log in memory.
-#[tactic(auto, using(crate::proofs::Joined::answers_make_page))]
 fn page_of_bytes<P: Threads + Wait + Sync + AllocGlobal>(
     rt: &P,
     log: &[u8],
@@ -74,45 +76,100 @@ fn page_of_bytes<P: Threads + Wait + Sync + AllocGlobal>(
     ensures page { IfOk result (λ page. IsPageOfLog most page.torn log.now page.bytes.items) }
     ensures error { IfErr result (IsAnswerError log.now) }
 {
-    let history = answer_of(rt, log, &LogOrder::WriteHistory, told)?;
-    let report = answer_of(rt, log, &LogOrder::ListFaults(most, ListForm::Json), told)?;
-    let names = answer_of(rt, log, &LogOrder::WriteNames, told)?;
-    let lines = lines_of(rt.alloc(), log)?;
-    let said = said_of_log(rt, log, most, told)?;
-    let bytes = page_of(
-        rt.alloc(),
-        history.text.as_slice(),
-        report.text.as_slice(),
-        names.text.as_slice(),
-        lines.as_bytes(),
-        said.as_slice(),
-    )?;
+    let run = run_in(rt.alloc(), log, told)?;
+    let torn = run.torn();
+    let bytes = page_of_run(rt, &run, most);
+    drop(run);
     Ok(LogPage {
-        bytes,
-        torn: history.torn,
+        bytes: bytes?,
+        torn,
     })
 }
 
-// The part of the page of a log that is seen where no script runs.
-#[tactic(auto, using(crate::proofs::Joined::answers_make_said))]
-fn said_of_log<P: Threads + Wait + Sync + AllocGlobal>(
-    rt: &P,
-    log: &[u8],
-    most: u32,
-    told: &mut String,
-) -> Result<Vec<u8>, LogError>
-    ensures said { IfOk result (λ bytes. IsSaidOfLog log.now bytes.items) }
+// The run of a log in memory.
+fn run_in(alloc: Global, log: &[u8], told: &mut String) -> Result<LoggedRun, LogError>
+    ensures run { IfOk result (λ run. IsLogOf log.now run.log run.torn) }
     ensures error { IfErr result (IsAnswerError log.now) }
 {
-    let words = answer_of(rt, log, &LogOrder::Explain(LongForm::Words), told)?;
+    let mut rest = log;
+    match LoggedRun::read(alloc, &mut rest, told) {
+        Ok(run) => Ok(run),
+        Err(error) => Err(in_memory(error)),
+    }
+}
+
+// Why a log in memory can't be read. Where bytes in memory can't be read, memory is short.
+fn in_memory(error: LogError) -> LogError
+    ensures { result ≡ memory_error error }
+{
+    match error {
+        LogError::Refused(refusal) => LogError::Refused(refusal),
+        LogError::Memory | LogError::ReadFault | LogError::WriteFault => LogError::Memory,
+    }
+}
+
+// The page of a run.
+#[tactic(auto, using(crate::proofs::Joined::answers_make_page))]
+fn page_of_run<P: Threads + Wait + Sync + AllocGlobal>(
+    rt: &P,
+    run: &LoggedRun,
+    most: u32,
+) -> Result<Vec<u8>, LogError>
+    ensures page { IfOk result (λ bytes. IsPageOf most run.now.log bytes.items) }
+    ensures error { IfErr result (λ e. e ≡ LogError.Memory) }
+{
+    let history = answer_of(rt, run, LogOrder::WriteHistory)?;
+    let report = answer_of(rt, run, LogOrder::ListFaults(most, ListForm::Json))?;
+    let names = answer_of(rt, run, LogOrder::WriteNames)?;
+    let notes = answer_of(rt, run, LogOrder::WriteNotes)?;
+    let lines = run.call_lines(rt.alloc())?;
+    let said = said_of_run(rt, run, report.as_bytes(), most)?;
+    let texts = PageTexts {
+        history: history.as_bytes(),
+        report: report.as_bytes(),
+        names: names.as_bytes(),
+        lines: lines.as_bytes(),
+        notes: notes.as_bytes(),
+    };
+    let bytes = page_of(rt.alloc(), texts, said.as_slice())?;
+    Ok(bytes)
+}
+
+// The part of the page of a run, with a list of its faults as JSON, that is seen where no script runs.
+#[tactic(auto, using(crate::proofs::Joined::answers_make_said))]
+fn said_of_run<P: Threads + Wait + Sync + AllocGlobal>(
+    rt: &P,
+    run: &LoggedRun,
+    report: &[u8],
+    most: u32,
+) -> Result<Vec<u8>, LogError>
+    ensures said { IfOk result (λ bytes. IsSaidOfLog run.now.log report.now bytes.items) }
+    ensures error { IfErr result (λ e. e ≡ LogError.Memory) }
+{
     let most = most.min(MOST_SAID);
-    let list = answer_of(rt, log, &LogOrder::ListFaults(most, ListForm::Words), told)?;
-    let picture = answer_of(rt, log, &LogOrder::Explain(LongForm::Picture), told)?;
+    let counted = reads_counted(rt.alloc(), report)?;
+    let words = answer_of(rt, run, LogOrder::Explain(LongForm::Words))?;
+    let list = answer_of(rt, run, LogOrder::ListFaults(most, ListForm::Words))?;
+    let picture = answer_of(rt, run, LogOrder::Explain(LongForm::Picture))?;
     let bytes = said_of(
         rt.alloc(),
-        words.text.as_slice(),
-        list.text.as_slice(),
-        picture.text.as_slice(),
+        words.as_bytes(),
+        counted.saturating_sub(u64::from(most)),
+        list.as_bytes(),
+        picture.as_bytes(),
     )?;
     Ok(bytes)
+}
+
+// The text of the answer to an order that does not judge.
+fn answer_of<P: Threads + Wait + Sync + AllocGlobal>(
+    rt: &P,
+    run: &LoggedRun,
+    order: LogOrder,
+) -> Result<String, LogError>
+    ensures answer { IfOk result (λ text. IsAnswerTo order run.now.log (string_bytes text)) }
+    ensures error { IfErr result (λ e. e ≡ LogError.Memory) }
+{
+    let answer = run.answer(rt, rt.alloc(), &order)?;
+    Ok(answer.text)
 }

@@ -3,6 +3,7 @@
 ghost use Rattle.std.specs.Prelude.{◌≤◌};
 
 use crate::answer_writer::{AnswerWriter, Dress};
+use crate::counted::counted_at;
 use crate::counting::{counts_of_history, counts_of_log};
 use crate::keeping::Keeping;
 use crate::line_process::judge_lines_of_process;
@@ -12,17 +13,21 @@ use crate::place::Place;
 use crate::program::report_refused;
 use crate::refused::form_of;
 use crate::saving::save;
+use crate::showing::{status_shown, view_of};
 use crate::summary::{status_by_counts, wants_counts};
 use crate::terminals::Terminals;
-use crate::waiting::Waiting;
 use app_command_line::{Asked, Coloring, Detail, LogOrder, Manner, Order, Task, output_file};
 use app_engine::run_keeping;
+use app_logs::Rest;
 use std::env;
 use std::io::Read;
 use std::rt::{Env, Files};
 use std::sync::Wait;
 use std::thread::Threads;
 use std::time::Clock;
+
+/// The name of standard input, where a file may be named.
+pub(crate) const STANDARD_INPUT: &str = "-";
 
 // The status after an answer that could not be written.
 const UNWRITTEN_STATUS: u8 = 3;
@@ -36,10 +41,45 @@ pub(crate) struct Given<'a, P> {
     pub terminals: Terminals,
     /// The words of the process.
     pub words: &'a [String],
+    /// The name of the input's file.
+    pub input: &'a str,
+    /// Whether the rest of a log is read where its judging ends early.
+    pub rest: Rest,
+}
+
+impl<'a, P> Given<'a, P> {
+    /// The same, where the rest of a log is read or not.
+    pub(crate) fn with_rest(&self, rest: Rest) -> Given<'a, P> {
+        Given {
+            place: Place {
+                rt: self.place.rt,
+                label: self.place.label,
+                is_terminal: self.place.is_terminal,
+                progress: self.place.progress,
+            },
+            terminals: self.terminals,
+            words: self.words,
+            input: self.input,
+            rest,
+        }
+    }
 }
 
 /// Does what is asked for on an input that a reader has, and returns the exit status.
 pub(crate) fn status_of_asked<
+    P: Env + Files + Threads + Wait + Sync + AllocGlobal + Print + Eprint + Clock,
+    R: Read + Drop + Send,
+>(given: &Given<'_, P>, reader: R, asked: &Asked) -> u8
+    ensures { result ≤ 6 }
+{
+    match view_of(given, asked) {
+        Some(view) => status_shown(given, view, reader, asked),
+        None => status_by(given, reader, asked),
+    }
+}
+
+/// The same, where another thread may show how far the work is.
+pub(crate) fn status_by<
     P: Env + Files + Threads + Wait + Sync + AllocGlobal + Print + Eprint + Clock,
     R: Read + Drop + Send,
 >(given: &Given<'_, P>, reader: R, asked: &Asked) -> u8
@@ -52,7 +92,7 @@ pub(crate) fn status_of_asked<
         label: given.place.label,
         is_painted: is_painted(given, asked.manner.coloring),
     };
-    let writer = AnswerWriter::to_output(given.place.rt, dress);
+    let writer = AnswerWriter::to_output(&given.place, dress);
     let (_, status) = answer_by(given, reader, writer, asked);
     status
 }
@@ -98,7 +138,7 @@ fn answer_by<
     ensures { result.1 ≤ 6 }
 {
     let mut writer = writer;
-    let reader = Waiting::by(given.place.rt, reader);
+    let reader = counted_at(&given.place, reader);
     let status = match asked.task {
         Task::OfInput(Order::JudgeLines(judging), _) => {
             return judge_lines_of_process(&given.place, reader, writer, judging);
@@ -107,9 +147,7 @@ fn answer_by<
             let manner = &asked.manner;
             status_of_order(&given.place, reader, &mut writer, &order, detail, manner)
         }
-        Task::OfLog(order) => {
-            status_of_log(&given.place, reader, &mut writer, order, &asked.manner)
-        }
+        Task::OfLog(order) => { status_of_log(given, reader, &mut writer, order, &asked.manner) }
         Task::OfPage(page, detail) => {
             write_page_of_process(&given.place, reader, &mut writer, page, detail)
         }
@@ -142,7 +180,7 @@ fn status_of_order<P: Threads + Wait + Sync + AllocGlobal + Print + Eprint, R: R
 
 // Does what is ordered of a log.
 fn status_of_log<P: Threads + Wait + Sync + AllocGlobal + Print + Eprint, R: Read + Drop>(
-    place: &Place<'_, P>,
+    given: &Given<'_, P>,
     reader: R,
     writer: &mut AnswerWriter<'_, P>,
     order: LogOrder,
@@ -150,9 +188,10 @@ fn status_of_log<P: Threads + Wait + Sync + AllocGlobal + Print + Eprint, R: Rea
 ) -> u8
     ensures { result ≤ 6 }
 {
+    let place = &given.place;
     let alloc = place.rt.alloc();
     let mut source = Keeping::of(alloc, reader, wants_counts(manner));
-    let status = follow_log_of_process(place, &mut source, writer, order);
+    let status = follow_log_of_process(place, &mut source, writer, order, given.rest);
     match source.kept() {
         Some(bytes) if is_answered(status) => {
             status_by_counts(place, manner, counts_of_log(alloc, bytes), status)

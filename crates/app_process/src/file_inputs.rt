@@ -2,13 +2,14 @@
 
 ghost use Rattle.std.specs.Prelude.{◌≤◌};
 
-use crate::asked_input::{Given, status_of_asked};
+use crate::asked_input::{Given, STANDARD_INPUT, status_of_asked};
 use crate::first_bytes::{FirstBytes, look};
 use crate::place::Place;
 use crate::program::{USAGE_STATUS, report_usage};
 use crate::terminals::Terminals;
 use crate::waiting::Waiting;
 use app_command_line::{Asked, Order, Sight, Task, asked_in, command_of, next_file, usage_fault};
+use app_logs::Rest;
 use std::fs::OpenFile;
 use std::io::Read;
 use std::rt::{Env, Files};
@@ -51,9 +52,12 @@ where
                 rt,
                 label: if is_many { Some(name) } else { None },
                 is_terminal: terminals.error,
+                progress: None,
             },
             terminals,
             words,
+            input: name,
+            rest: Rest::Unread,
         };
         worst = worse(worst, status_on_file(&given, &choices, name));
         rest = later;
@@ -122,7 +126,7 @@ fn is_of_one(asked: &Asked) -> bool {
 }
 
 // Writes what is wrong with words that ask for nothing on an input that looks so.
-fn status_of_usage<P: Files + AllocGlobal + Print + Eprint>(
+fn status_of_usage<P: Files + AllocGlobal + Print + Eprint + Wait>(
     rt: &P,
     words: &[String],
     sight: Sight,
@@ -155,11 +159,14 @@ where
     P::File: Send,
     ensures { result ≤ 6 }
 {
-    if name == "-" {
+    if name == STANDARD_INPUT {
         return status_on_reader(given, choices, name, given.place.rt.reader());
     }
     match opened(given.place.rt, name) {
-        Ok(file) => status_on_reader(given, choices, name, file),
+        Ok(file) => {
+            let given = given.with_rest(rest_of(&file));
+            status_on_reader(&given, choices, name, file)
+        }
         Err(fault) => {
             say_of_file(given, name, fault);
             UNREAD_STATUS
@@ -173,6 +180,14 @@ fn opened<P: Files>(rt: &P, name: &str) -> Result<P::File, &'static str> {
     match file.metadata() {
         Ok(found) if found.is_dir() => Err("it is a folder"),
         _ => Ok(file),
+    }
+}
+
+// Whether the rest of a file is read where the judging of its log ends early: a read of a plain file never waits for more.
+fn rest_of<F: OpenFile>(file: &F) -> Rest {
+    match file.metadata() {
+        Ok(found) if found.is_file() => Rest::Read,
+        _ => Rest::Unread,
     }
 }
 

@@ -3,7 +3,7 @@ ghost use Rattle.std.specs.Prelude.{◌≡◌, ◌≤◌, ◌⊎◌};
 ghost use Rattle.app_engine.specs.Failure.{status_for};
 ghost use Rattle.app_command_line.specs.CommandLine.{IsUsageStatus};
 
-use crate::asked_input::{Given, status_of_asked};
+use crate::asked_input::{Given, STANDARD_INPUT, status_of_asked};
 use crate::build_record::print_gate;
 use crate::file_inputs::status_on_files;
 use crate::place::Place;
@@ -11,6 +11,7 @@ use crate::refused::reason_of;
 use crate::terminals::Terminals;
 use app_command_line::{Detail, Sight, Usage, command_of, fault_with, next_file};
 use app_engine::{RunError, fault_line, status_of};
+use app_logs::Rest;
 use show_refusals::InputForm;
 use std::rt::{Env, Files};
 use std::sync::Wait;
@@ -61,9 +62,12 @@ where
                     rt,
                     label: None,
                     is_terminal: terminals.error,
+                    progress: None,
                 },
                 terminals,
                 words,
+                input: STANDARD_INPUT,
+                rest: Rest::Unread,
             };
             status_of_asked(&given, rt.reader(), &asked)
         }
@@ -72,7 +76,10 @@ where
 }
 
 /// Writes what is said of words that give no task, and returns the exit status.
-pub(crate) fn report_usage<P: Files + AllocGlobal + Print + Eprint>(rt: &P, usage: Usage) -> u8
+pub(crate) fn report_usage<P: Files + AllocGlobal + Print + Eprint + Wait>(
+    rt: &P,
+    usage: Usage,
+) -> u8
     ensures status { IsUsageStatus usage result }
     ensures few { result ≤ 4 }
 {
@@ -87,7 +94,7 @@ pub(crate) fn report_usage<P: Files + AllocGlobal + Print + Eprint>(rt: &P, usag
 }
 
 // Writes the help or the version, and after the version whether the gate passed for this build.
-fn print_help<P: Files + AllocGlobal + Print + Eprint>(rt: &P, text: String) -> u8
+fn print_help<P: Files + AllocGlobal + Print + Eprint + Wait>(rt: &P, text: String) -> u8
     ensures { (result ≡ 0) ⊎ ((result ≡ 3) ⊎ (result ≡ 4)) }
 {
     let is_version = text.starts_with("causal_judge ");
@@ -112,7 +119,7 @@ const BAD_WORDS: &str =
 
 /// Writes the line of a run that failed, and if the detail is `Reason`, a second line on what is wrong with its input. The
 /// second line is left out if memory does not suffice for both. Returns the exit status.
-pub(crate) fn report_refused<P: AllocGlobal + Eprint>(
+pub(crate) fn report_refused<P: AllocGlobal + Eprint + Wait>(
     place: &Place<'_, P>,
     error: &RunError,
     detail: Detail,
@@ -129,7 +136,7 @@ pub(crate) fn report_refused<P: AllocGlobal + Eprint>(
 }
 
 // Says what is wrong with an input where the detail is `Reason`; else says on a terminal how to ask for that.
-fn say_reason<P: AllocGlobal + Eprint>(
+fn say_reason<P: AllocGlobal + Eprint + Wait>(
     place: &Place<'_, P>,
     error: &RunError,
     detail: Detail,
@@ -151,7 +158,7 @@ const ASKS_WHY: &str = "--why says what is wrong; a FILE in the place of '<' fin
 
 /// Writes the line of a run that failed, and returns the exit status. If there is no memory for the line, it returns the
 /// status for want of memory.
-pub(crate) fn report<P: AllocGlobal + Eprint>(
+pub(crate) fn report<P: AllocGlobal + Eprint + Wait>(
     place: &Place<'_, P>,
     outcome: Result<(), RunError>,
 ) -> u8

@@ -2,13 +2,14 @@
 
 use crate::place::Place;
 use std::rt::Files;
+use std::sync::Wait;
 use std::{fs, io};
 
 /// Writes an answer to the file of this name, and returns whether it is there now; says what failed where it is not.
 ///
 /// The answer is written beside the file first, under the file's name with `.part` after it, which then takes the place of the file. So
 /// the file has the whole answer, or what it had. What is no plain file, as a pipe, is written to as it is.
-pub(crate) fn save<P: Files + AllocGlobal + Eprint>(
+pub(crate) fn save<P: Files + AllocGlobal + Eprint + Wait>(
     place: &Place<'_, P>,
     name: &str,
     answer: &[u8],
@@ -16,6 +17,7 @@ pub(crate) fn save<P: Files + AllocGlobal + Eprint>(
     match written(place.rt, name, answer) {
         Ok(()) => true,
         Err(_) => {
+            place.make_room();
             let _ = place.rt.eprint(name);
             let _ = place.rt.eprintln(": the answer can't be written there");
             false

@@ -5,6 +5,7 @@ ghost use Rattle.std.specs.Prelude.{◌≤◌};
 use crate::counting::RunCounts;
 use crate::place::Place;
 use app_command_line::Manner;
+use std::sync::Wait;
 
 // The status where fewer reads were answered than are wanted.
 const FEW_READS_STATUS: u8 = 6;
@@ -16,7 +17,7 @@ pub(crate) fn wants_counts(manner: &Manner) -> bool {
 
 /// Says how much a run asks, where that is wanted, and returns the status: 6 in the place of 0 where fewer reads were answered than
 /// are wanted, or where they can't be counted.
-pub(crate) fn status_by_counts<P: AllocGlobal + Eprint>(
+pub(crate) fn status_by_counts<P: AllocGlobal + Eprint + Wait>(
     place: &Place<'_, P>,
     manner: &Manner,
     counts: Option<RunCounts>,
@@ -48,7 +49,7 @@ pub(crate) fn status_by_counts<P: AllocGlobal + Eprint>(
 }
 
 // Says that too few reads were answered.
-fn say_few<P: AllocGlobal + Eprint>(place: &Place<'_, P>, reads: u64, least: u32) {
+fn say_few<P: AllocGlobal + Eprint + Wait>(place: &Place<'_, P>, reads: u64, least: u32) {
     let alloc = place.rt.alloc();
     if let Ok(line) = format!(in alloc;
         "reads answered {reads}, where at least {least} are wanted"

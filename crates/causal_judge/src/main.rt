@@ -8,6 +8,7 @@ use std::process::ExitCode;
 
 fn main(rt: HostRuntime) -> ExitCode {
     let terminals = Terminals {
+        input: rt.stdin().is_terminal(),
         output: rt.stdout().is_terminal(),
         error: rt.stderr().is_terminal(),
     };

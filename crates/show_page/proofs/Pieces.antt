@@ -14,14 +14,14 @@ pub five : (p q r s t u a b c d e : List ℕ) → q ≡ p ++ a → r ≡ q ++ b 
 five p q r s t u a b c d e first second third fourth fifth =
     two p q u a (b ++ (c ++ (d ++ e))) first (four q r s t u b c d e second third fourth fifth)
 
-pub six : (p q r s t u v a b c d e f : List ℕ) → q ≡ p ++ a → r ≡ q ++ b → s ≡ r ++ c → t ≡ s ++ d → u ≡ t ++ e → v ≡ u ++ f
-    → v ≡ p ++ (a ++ (b ++ (c ++ (d ++ (e ++ f)))))
-six p q r s t u v a b c d e f first second third fourth fifth sixth =
-    two p q v a (b ++ (c ++ (d ++ (e ++ f)))) first (five q r s t u v b c d e f second third fourth fifth sixth)
+pub eight : (p q r s t u v w x a b c d e f g h : List ℕ) → q ≡ p ++ a → r ≡ q ++ b → s ≡ r ++ c → t ≡ s ++ d → u ≡ t ++ e → v ≡ u ++ f
+    → w ≡ v ++ g → x ≡ w ++ h → x ≡ p ++ (a ++ (b ++ (c ++ (d ++ (e ++ (f ++ (g ++ h)))))))
+eight p q r s t u v w x a b c d e f g h first second third fourth fifth sixth seventh eighth =
+    five p q r s t x a b c d (e ++ (f ++ (g ++ h))) first second third fourth (four t u v w x e f g h fifth sixth seventh eighth)
 
-pub ten : (p q r s t u v w x y z a b c d e f g h i j : List ℕ) → q ≡ p ++ a → r ≡ q ++ b → s ≡ r ++ c → t ≡ s ++ d → u ≡ t ++ e → v ≡ u ++ f
-    → w ≡ v ++ g → x ≡ w ++ h → y ≡ x ++ i → z ≡ y ++ j
-    → z ≡ p ++ (a ++ (b ++ (c ++ (d ++ (e ++ (f ++ (g ++ (h ++ (i ++ j)))))))))
-ten p q r s t u v w x y z a b c d e f g h i j first second third fourth fifth sixth seventh eighth ninth tenth =
-    five p q r s t z a b c d (e ++ (f ++ (g ++ (h ++ (i ++ j))))) first second third fourth
-    (six t u v w x y z e f g h i j fifth sixth seventh eighth ninth tenth)
+pub twelve : (p q r s t u v w x y z y2 z2 a b c d e f g h i j k l : List ℕ) → q ≡ p ++ a → r ≡ q ++ b → s ≡ r ++ c → t ≡ s ++ d → u ≡ t ++ e
+    → v ≡ u ++ f → w ≡ v ++ g → x ≡ w ++ h → y ≡ x ++ i → z ≡ y ++ j → y2 ≡ z ++ k → z2 ≡ y2 ++ l
+    → z2 ≡ p ++ (a ++ (b ++ (c ++ (d ++ (e ++ (f ++ (g ++ (h ++ (i ++ (j ++ (k ++ l)))))))))))
+twelve p q r s t u v w x y z y2 z2 a b c d e f g h i j k l first second third fourth fifth sixth seventh eighth ninth tenth eleventh twelfth =
+    five p q r s t z2 a b c d (e ++ (f ++ (g ++ (h ++ (i ++ (j ++ (k ++ l))))))) first second third fourth
+    (eight t u v w x y z y2 z2 e f g h i j k l fifth sixth seventh eighth ninth tenth eleventh twelfth)

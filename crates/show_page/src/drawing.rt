@@ -26,7 +26,8 @@ const andJoined = list => list.length < 2 ? list.join('') : list.slice(0, -1).jo
 
 // ---- What the page is of
 const [report, named, lines] = ['report', 'names', 'lines'].map(id => readJson($(id).textContent));
-const run = readLines(readHistory($('history').textContent), lines, named), names = nameAll(run, named);
+const notes = readNotes($('notes').textContent), run = readLines(readHistory($('history').textContent), lines, named, notes);
+const names = nameAll(run, named);
 const {verdicts, faults, counts, listed} = gatherFaults(run, report);
 const tally = report[1], total = [...counts.values()].reduce((sum, many) => sum + many, 0), isHurt = new Map();
 const faultOfRead = new Map(faults.filter(fault => fault.read >= 0).map(fault => [fault.read, fault]));
@@ -500,12 +501,13 @@ function opNear([pixel, y]) {   // of the sessions of a row the operation there;
 function hint(op) {
   if (op < 0) return;
   const fault = faultOfRead.get(op);
-  put('under', placeText(op) + ': ', sessionName(op, 60), ' ', operationWords(run, names, op), fault && make('strong', {class: 'bad'},
-    ' \u2717 ' + titleOf(fault.kind)));
+  put('under', placeText(op) + ': ', sessionName(op, 60), ' ', operationWords(run, names, op), noteWords(run, op),
+    fault && make('strong', {class: 'bad'}, ' \u2717 ' + titleOf(fault.kind)));
 }
 
 // ---- Operations: what is around one, or what the search finds
-const COLUMNS = ['operation', noun, 'does', run.isKeyed ? keyNoun : null, 'value', run.isMemory ? 'reads from' : null];
+const COLUMNS = ['operation', noun, 'does', run.isKeyed ? keyNoun : null, 'value', run.isMemory ? 'reads from' : null,
+  run.notes.size ? 'notes' : null];
 const DEFAULT_ROWS = 60, AROUND = 12;
 function listOps(ops, title, limit = 100) {
   put('operations-title', title);
@@ -521,7 +523,9 @@ function rowFor(op) {
     cell(value && make('code', null, name(cut(value, long))), isOpen && make('i', {class: 'soft'}, value ? ', no answer' : 'no answer')),
     run.isMemory && cell(fault ? press(() => choose(fault, true), 'link bad', '\u2717 ' + titleOf(fault.kind)) :
       source >= 0 ? [press(() => showOp(source), 'link', placeText(source)), ' ', sessionName(source, 24)] :
-        isRead(run, op) && run.answer[op] === initialOf(run, run.key[op]) && 'the start'));
+        isRead(run, op) && run.answer[op] === initialOf(run, run.key[op]) && 'the start'),
+    run.notes.size > 0 && cell(notedLines(run, op).map((line, at) => [at > 0 && ' ', make('code', {title: 'line ' + line},
+      name(cut(noteShown(run.notes.get(line)), long)))])));
 }
 function listAround(op) {
   const session = run.session[op], first = Math.max(run.base[session], op - AROUND);
@@ -544,7 +548,7 @@ function listFirst() {
 }
 let lowered = null;
 const TERM = /(?:session|client|variable|key|line) \d+(?!\S)|\S+/g;
-function search() {   // each term has to be in the session, the key, the value or what is done, or to be the place of the operation
+function search() {   // each term has to be in the session, the key, the value, a note or what is done, or to be the place of the operation
   const terms = $('search').value.toLowerCase().match(TERM) || [];
   hits = [];
   marked = NONE;
@@ -560,15 +564,18 @@ function search() {   // each term has to be in the session, the key, the value 
 }
 const lowerNames = () => ({sessions: Array.from({length: run.sessions}, (_, session) => names.session(session).toLowerCase()),
   keys: run.keys.tokens.map((_, key) => names.isMark(key) ? '' : names.key(key).toLowerCase()),
-  values: run.values.tokens.map((_, value) => names.value(value).toLowerCase())});
+  values: run.values.tokens.map((_, value) => names.value(value).toLowerCase()),
+  notes: [...run.notes].map(([line, note]) => [line, asWritten(note).toLowerCase()])});
 function termTest(term) {
   if (/^\d+\.\d+$/.test(term)) return op => numberOf(run, op) === term;
   if (run.lines && /^line \d+$/.test(term)) return op => term === 'line ' + run.lines[op];
   const isWhole = term.includes(' '), found = list => list.map(text => isWhole ? text === term : text.includes(term));
   const [sessions, keys, values] = ['sessions', 'keys', 'values'].map(of => found(lowered[of]));
   const words = WORD_LIST.map(word => `${DONE[word]} ${word}`.includes(term)), isLost = 'lost no answer'.includes(term);
+  const noted = new Set(lowered.notes.filter(([, note]) => note.includes(term)).map(([line]) => line));
   const isNamed = op => sessions[run.session[op]] || keys[run.key[op]] || values[run.argument[op]] || values[run.answer[op]];
-  return op => isNamed(op) || words[run.word[op]] || isLost && (isUnanswered(run, op) || isOfLostWrite(run, names, op));
+  const isNoted = op => noted.size > 0 && notedLines(run, op).some(line => noted.has(line));
+  return op => isNamed(op) || words[run.word[op]] || isNoted(op) || isLost && (isUnanswered(run, op) || isOfLostWrite(run, names, op));
 }
 function searchFor(text) {
   $('search').value = text;
@@ -653,7 +660,8 @@ function start() {
   $('said').remove();
   $('live').hidden = false;
   put('columns', COLUMNS.filter(Boolean).map(title => make('th', {scope: 'col'}, title)));
-  $('search').placeholder = `Search ${[noun, run.isKeyed && keyNoun, 'value'].filter(Boolean).join(', ')} or place`;
+  const sought = [noun, run.isKeyed && keyNoun, 'value', run.notes.size && 'note'].filter(Boolean);
+  $('search').placeholder = `Search ${sought.join(', ')} or place`;
   showVerdicts();
   fillFilters();
   $('faults').hidden = faults.length < 2;

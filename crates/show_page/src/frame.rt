@@ -1,9 +1,10 @@
 //! The static markup of the page, in pieces.
 //!
 //! A page is, in this order: `OPENING`, `STYLE`, `BODY`, the history, `BEFORE_REPORT`, the report, `BEFORE_NAMES`, the names,
-//! `BEFORE_LINES`, the lines, `BEFORE_WORDS`, the words, `BEFORE_LIST`, the list, `BEFORE_PICTURE`, the picture, `BEFORE_SCRIPT`, `SCRIPT`,
-//! `ZOOMING`, `DRAWING`, `ENDING`. The first four texts between them are JSON in which each `<` is written as `\u003c`. The words and the
-//! list are text in which each `<` and each `&` is written as its entity. The picture is an SVG element as it is.
+//! `BEFORE_LINES`, the lines, `BEFORE_NOTES`, the notes, `BEFORE_WORDS`, the words, `BEFORE_MORE`, how many more reads there are,
+//! `BEFORE_LIST`, the list, `BEFORE_PICTURE`, the picture, `BEFORE_SCRIPT`, `SCRIPT`, `ZOOMING`, `DRAWING`, `ENDING`. The first five
+//! texts between them are JSON in which each `<` is written as `\u003c`. The words and the list are text in which each `<` and each `&` is
+//! written as its entity. The picture is an SVG element as it is.
 //!
 //! The elements of `BODY` are hidden, and have no text of an input: the script shows them, and makes all further elements. The element
 //! `said` has the words, the list and the picture. The script removes it as it begins to draw, so it is seen wherever no script runs. The
@@ -15,7 +16,7 @@ pub const OPENING: &str = r#"<!DOCTYPE html>
 <head>
 <meta charset="utf-8">
 <meta http-equiv="Content-Security-Policy" content="default-src 'none'; base-uri 'none'; form-action 'none';
-script-src 'sha256-JZcsPz2LltV+L0rcL3Bdvi4ifigKm2WnD4364gM/rrM=';
+script-src 'sha256-IxfQXslm0Sv3sWjmleDxgjdsAXqTuLb5aCrYYhkIG8U=';
 style-src 'sha256-W+adrpk4AgFw85phCFghPqkK0vN5PCysVzyjCRaoJng='">
 <meta name="viewport" content="width=device-width, initial-scale=1">
 <meta name="referrer" content="no-referrer">
@@ -98,7 +99,11 @@ pub const BEFORE_NAMES: &str = r#"</script>
 pub const BEFORE_LINES: &str = r#"</script>
 <script type="application/json" id="lines">"#;
 
-/// Between the lines and the words.
+/// Between the lines and the notes.
+pub const BEFORE_NOTES: &str = r#"</script>
+<script type="application/json" id="notes">"#;
+
+/// Between the notes and the words.
 pub const BEFORE_WORDS: &str = r#"</script>
 <div id="said">
 <p class="maker"><code>causal_judge explain</code></p>
@@ -108,10 +113,13 @@ pub const BEFORE_WORDS: &str = r#"</script>
 /// The most reads that the list names.
 pub const MOST_SAID: u32 = 300;
 
-/// Between the words and the list. It says how many reads the list names at most.
-pub const BEFORE_LIST: &str = r#"</pre></section>
+/// Between the words and how many more reads there are. It says how many reads the list names at most.
+pub const BEFORE_MORE: &str = r#"</pre></section>
 <section class="panel"><h2>Reads that show a fault</h2>
-<p class="soft">At most 300 of them are listed here. The counts before the list are those of all.</p>
+<p class="soft">At most 300 of them are listed here"#;
+
+/// Between that and the list.
+pub const BEFORE_LIST: &str = r#". The counts before the list are those of all.</p>
 <pre>"#;
 
 /// Between the list and the picture.

@@ -3,7 +3,7 @@
 //! `tests/page_parts.py --write` writes them anew, here and in the policy, and `tests/pages.py` computes them again.
 
 /// The hash of `SCRIPT`, `ZOOMING` and `DRAWING`, joined in this order.
-pub const SCRIPT_HASH: &str = r#"sha256-JZcsPz2LltV+L0rcL3Bdvi4ifigKm2WnD4364gM/rrM="#;
+pub const SCRIPT_HASH: &str = r#"sha256-IxfQXslm0Sv3sWjmleDxgjdsAXqTuLb5aCrYYhkIG8U="#;
 
 /// The hash of `STYLE`.
 pub const STYLE_HASH: &str = r#"sha256-W+adrpk4AgFw85phCFghPqkK0vN5PCysVzyjCRaoJng="#;

@@ -1,4 +1,4 @@
-//! The first part of the page's script: it reads the four texts and works out what they say, and touches no element.
+//! The first part of the page's script: it reads the five texts and works out what they say, and touches no element.
 //!
 //! Numbers stay exact up to 2^64 - 1. Operations are numbered session by session, and arrays hold what is known of each number.
 
@@ -34,7 +34,8 @@ function readHistory(text) {
   const column = () => new Int32Array(count).fill(NONE);
   const run = {object, count, sessions: sessions.length, isMemory: object === 'memory', isKeyed: KEYED.includes(object),
     base: new Int32Array(sessions.length + 1), session: column(), word: new Uint8Array(count), key: column(), argument: column(),
-    answer: column(), keys: new Table(), values: new Table(), start: new Map()};
+    answer: column(), keys: new Table(), values: new Table(), start: new Map(),
+    notes: new Map()};
   let op = 0;
   sessions.forEach((session, s) => {
     for (const parts of session) readOperation(run, parts, s, op++);
@@ -83,13 +84,34 @@ const indexOf = (run, op) => op - run.base[run.session[op]];
 const isUnanswered = (run, op) => run.answer[op] === UNKNOWN;
 
 // Where an operation is: its session and its index in it, or in a log the line on which its call begins. A lost write that was read is
-// three operations of one line, which `explain` names alike.
+// three operations of one line, which `explain` names alike. Of a call whose end has a note, the text has the line of the end too.
 const numberOf = (run, op) => run.session[op] + '.' + indexOf(run, op);
-const readLines = (run, lines, names) => lines ? {...run, lines: Int32Array.from(lines.flat()), clients: names[0].length} : run;
+function readLines(run, lines, names, notes) {
+  if (!lines) return run;
+  const pairs = lines.flat().map(line => Array.isArray(line) ? line : [line, NONE]);
+  const column = at => Int32Array.from(pairs, pair => pair[at]);
+  return {...run, lines: column(0), ends: column(1), clients: names[0].length, notes};
+}
 function placeOf(run, op) {
   if (!run.lines) return numberOf(run, op);
   const isFork = run.session[op] >= run.clients, isCall = !isFork && run.keys.tokens[run.key[op]] % 2 === 1;
   return 'line ' + run.lines[op] + (isCall ? ' (call)' : isFork && !indexOf(run, op) ? ' (later)' : '');
+}
+
+// The notes of a log by their lines, each as its JSON text: no number of it is rounded, and no part of it moves. In the list of pairs of a
+// line and a note, what is within a pair is two lists deep.
+const NOTE_MARK = /"(?:[^"\\]+|\\.)*"|[[\]{},]/gs;
+function readNotes(text) {
+  const notes = new Map();
+  let depth = 0, begin = 0, line = NONE;
+  for (const {0: mark, index} of text.matchAll(NOTE_MARK)) {
+    const isOpening = mark === '[' || mark === '{', isClosing = mark === ']' || mark === '}';
+    if (isClosing && depth === 2) notes.set(line, text.slice(begin, index));
+    if (mark === ',' && depth === 2) line = Number(text.slice(begin, index));
+    depth += isOpening - isClosing;
+    if (depth === 2 && (isOpening || mark === ',')) begin = index + 1;
+  }
+  return notes;
 }
 
 // ---- Names. What cannot be seen, and what could turn a line around, is shown as an escape; what is long is cut.
@@ -103,12 +125,21 @@ function jsonShown(token) {
   if (typeof token !== 'string') return String(scalar(token));
   const text = visible(spelled(JSON.stringify(token.length > LONGEST ? token.slice(0, LONGEST).replace(/[\ud800-\udbff]$/, '') : token)));
   if (token.length <= LONGEST && text.length <= LONGEST + 2) return text;
+  return shortened(text.slice(0, -1)) + '\u2026" (' + plural(token.length, 'character') + ')';
+}
+function shortened(text) {   // to what is shown at most, and through no escape
   let short = '';
-  for (const [unit] of text.slice(0, -1).matchAll(/\\u[0-9a-f]{4}|\\.|./gsu)) {
+  for (const [unit] of text.matchAll(/\\u[0-9a-f]{4}|\\.|./gsu)) {
     if (short.length + unit.length > LONGEST) break;
     short += unit;
   }
-  return short + '\u2026" (' + plural(token.length, 'character') + ')';
+  return short;
+}
+// A note as it stands in the log. In the page each < of a text is an escape, which is undone; an escape of a backslash is no such one.
+const asWritten = json => json.replace(/\\(\\|u003c)/g, (escape, what) => what === '\\' ? escape : '<');
+function noteShown(json) {
+  const text = visible(asWritten(json));
+  return text.length <= LONGEST ? text : shortened(text) + '\u2026';
 }
 const PLAIN = /^(?!true$|false$|null$)[A-Za-z_][\w.:\/@+-]*$/;
 const nameShown = (token, noun) => typeof token !== 'string' ? noun + ' ' + scalar(token) :
@@ -182,9 +213,17 @@ function lostWords(run, names, op) {   // of a lost write: its call, what it wai
   if (run.session[op] < names.clients) return ['calls a write of ', writtenWords(run, names, names.effectOf(op)), ' and gets no answer'];
   return isRead(run, op) ? ['comes after all that its client had called before it'] : ['takes effect: ', writtenWords(run, names, op)];
 }
+// The notes of a call, each with its line: those of its begin and of its end. The later operations of a lost write have none.
+const notedLines = (run, op) => !run.notes.size || run.session[op] >= run.clients ? [] :
+  [run.lines[op], run.ends[op]].filter(line => run.notes.has(line));
+function noteWords(run, op) {
+  const shown = line => [`line ${line}: `, name(noteShown(run.notes.get(line)))];
+  const parts = notedLines(run, op).map((line, at) => [at ? '; of ' : ' [note of ', shown(line)]);
+  return parts.length ? [parts, ']'] : '';
+}
 function operationLine(run, names, op) {   // with its client, in the words of `explain`
   const client = op => name(names.session(run.session[op])), session = run.session[op];
-  if (session < names.clients) return [names.isLog ? [': ', client(op)] : '', ' ', operationWords(run, names, op)];
+  if (session < names.clients) return [names.isLog ? [': ', client(op)] : '', ' ', operationWords(run, names, op), noteWords(run, op)];
   const owner = client(names.callOf(op));
   return isRead(run, op) ? [': the lost write of ', owner, ' comes after all that ', owner, ' had called before it'] :
     [': the lost write of ', writtenWords(run, names, op), ' by ', owner, ' takes effect'];

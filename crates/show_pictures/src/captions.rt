@@ -1,23 +1,33 @@
 //! What a picture says in words.
 
 use crate::marks::Relation;
+use crate::reason::Reason;
 use cert_check::Criterion;
 use model_history::OpId;
 use pattern_check::{Kind, Pattern};
-use show_words::Names;
+use show_words::{Guarantee, Names};
 use std::alloc::{AllocError, Global};
 
-/// Says at the head of a picture of a pattern which criterion the history does not meet, and what the kind of pattern says.
-pub(crate) fn push_lines_of_pattern<N: Names>(
+/// Says at the head of a picture of a pattern which criterion the history does not meet, what the kind of pattern says, and which guarantee
+/// is broken, if one is.
+pub(crate) fn push_lines_of_reason<N: Names>(
     alloc: Global,
     lines: &mut Vec<String>,
     names: &N,
-    criterion: Criterion,
-    pattern: &Pattern,
+    reason: Reason<'_>,
 ) -> Result<(), AllocError> {
+    let Reason {
+        criterion,
+        pattern,
+        broken,
+    } = reason;
     push_line(lines, title_of(alloc, criterion, pattern.kind())?)?;
     push_line(lines, claim_of(alloc, criterion)?)?;
-    push_line(lines, sentence_of(alloc, names, pattern)?)
+    push_line(lines, sentence_of(alloc, names, pattern)?)?;
+    match broken {
+        Some(guarantee) => push_line(lines, sentence_on_guarantee(alloc, guarantee)?),
+        None => Ok(()),
+    }
 }
 
 /// Adds a line.
@@ -59,6 +69,12 @@ fn sentence_of<N: Names>(
         }
         _ => String::from_str(alloc, words_of_kind(pattern.kind())),
     }
+}
+
+// Which guarantee is broken.
+fn sentence_on_guarantee(alloc: Global, guarantee: Guarantee) -> Result<String, AllocError> {
+    let name = guarantee.name();
+    format!(in alloc; "This breaks {name}.")
 }
 
 // What is wrong in the relation of an operation.

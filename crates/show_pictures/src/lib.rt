@@ -22,8 +22,10 @@ mod legend;
 mod marks;
 mod pictures;
 mod ports;
+mod reason;
 mod rows;
 
 pub use escaping::escaped;
 pub use label::Labelled;
 pub use pictures::{picture_of_history, picture_of_pattern};
+pub use reason::Reason;

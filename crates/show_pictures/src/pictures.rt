@@ -3,7 +3,7 @@
 ghost use Rattle.std.specs.Prelude.{IfOk, string_bytes};
 ghost use Rattle.show_pictures.specs.Markup.{IsSvgElement};
 
-use crate::captions::{push_line, push_lines_of_pattern, words_of_wrong};
+use crate::captions::{push_line, push_lines_of_reason, words_of_wrong};
 use crate::drawing::{Scene, drawing_of};
 use crate::faults::blame_pattern;
 use crate::gathering::mark_pattern;
@@ -11,8 +11,8 @@ use crate::label::Labelled;
 use crate::lanes::{Lane, extent_around, extent_without_pattern, lanes_of};
 use crate::legend::LegendWords;
 use crate::marks::Marks;
+use crate::reason::Reason;
 use crate::rows::rows_of;
-use cert_check::Criterion;
 use model_history::{History, OpId};
 use model_objects::Memory;
 use order_memory::IndexedMemory;
@@ -25,7 +25,7 @@ use std::alloc::{AllocError, Global};
 /// The picture shows a history of at most 40 operations whole. Of a larger one it shows the operations of the pattern, and one
 /// operation before and after each, in their sessions alone. It draws at most 256 edges. It leaves out operations of the pattern
 /// that the history does not have. It draws the read that is wrong, or the operations of the cycle, in red, and says in their
-/// boxes what is wrong.
+/// boxes what is wrong. Its head names the guarantee that is broken, if one is given.
 ///
 /// Sessions and operations have these names. If the history is a part of a longer one, each lane says how many operations of the
 /// whole are left out before each one shown. What follows the part's last operation of a session is not known, and not shown.
@@ -36,13 +36,12 @@ pub fn picture_of_pattern<N: Names>(
     alloc: Global,
     history: &History<Memory>,
     names: &N,
-    criterion: Criterion,
-    pattern: &Pattern,
+    reason: Reason<'_>,
 ) -> Result<String, AllocError>
     ensures { IfOk result (λ svg. IsSvgElement (string_bytes svg)) }
 {
-    let marks = marks_in_history(alloc, history, names, pattern)?;
-    let picture = picture_of_marked_pattern(alloc, history, names, criterion, pattern, &marks);
+    let marks = marks_in_history(alloc, history, names, reason.pattern)?;
+    let picture = picture_of_marked_pattern(alloc, history, names, reason, &marks);
     drop(marks);
     picture
 }
@@ -79,15 +78,14 @@ fn picture_of_marked_pattern<O: Labelled, N: Names>(
     alloc: Global,
     history: &History<O>,
     names: &N,
-    criterion: Criterion,
-    pattern: &Pattern,
+    reason: Reason<'_>,
     marks: &Marks,
 ) -> Result<String, AllocError>
     ensures { IfOk result (λ svg. IsSvgElement (string_bytes svg)) }
 {
     let lanes = lanes_of(alloc, history, names, marks, extent_around(history))?;
     let sessions = names.sessions(history.sessions());
-    let picture = picture_with_reason(alloc, names, sessions, criterion, pattern, &lanes, marks);
+    let picture = picture_with_reason(alloc, names, sessions, reason, &lanes, marks);
     drop(lanes);
     picture
 }
@@ -97,18 +95,17 @@ fn picture_with_reason<N: Names>(
     alloc: Global,
     names: &N,
     sessions: usize,
-    criterion: Criterion,
-    pattern: &Pattern,
+    reason: Reason<'_>,
     lanes: &[Lane],
     marks: &Marks,
 ) -> Result<String, AllocError>
     ensures { IfOk result (λ svg. IsSvgElement (string_bytes svg)) }
 {
     let mut lines = Vec::new(alloc);
-    push_lines_of_pattern(alloc, &mut lines, names, criterion, pattern)?;
+    push_lines_of_reason(alloc, &mut lines, names, reason)?;
     push_left_out(alloc, &mut lines, names, sessions, lanes, marks)?;
     let words = LegendWords {
-        wrong: words_of_wrong(pattern.kind()),
+        wrong: words_of_wrong(reason.pattern.kind()),
         marked: "operation that shows it",
     };
     picture_of(alloc, &lines, lanes, marks, words)

@@ -16,5 +16,7 @@ pub record IsNoBareWord (word : Text) : Type 0 where
   pub html : word ≢ codes "--html"
   pub events : word ≢ codes "--events"
   pub names : word ≢ codes "--names"
+  pub notes : word ≢ codes "--notes"
   pub why : word ≢ codes "--why"
   pub summary : word ≢ codes "--summary"
+  pub progress : word ≢ codes "--progress"

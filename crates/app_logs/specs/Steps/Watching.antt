@@ -1,5 +1,5 @@
 -- What a turn of judging a log while it is read begins with, and what comes of it.
-use Rattle.std.specs.Prelude.{◌≡◌, ◌≢◌, ◌⊎◌, ◌*◌, ◌<◌, ℕ, suc, List, Option, Some, None, length}
+use Rattle.std.specs.Prelude.{◌≡◌, ◌≢◌, ◌⊎◌, ◌*◌, ◌<◌, ℕ, suc, false, List, Option, None, length}
 use Rattle.std.specs.Io.KnownBytes.{Appends, Consumes}
 use Rattle.app_command_line.specs.declared.expected.Expected.{Expected}
 use Rattle.json_lines.specs.declared.outcome.Outcome.{Outcome}
@@ -8,8 +8,9 @@ use Rattle.log_events.specs.declared.event.Event.{Event}
 use Rattle.app_findings.specs.declared.finding.Findings.{Findings}
 use Rattle.app_engine.specs.Expecting.{outcome_for}
 use Rattle.log_reader.specs.Readings.{HasRead, Reading}
-use Rattle.app_logs.specs.declared.following.Followed.{Followed}
-use Rattle.app_logs.specs.LogAnswers.{WatchesLog}
+use Rattle.app_logs.specs.declared.turn.Turn.{Turn}
+use Rattle.app_logs.specs.declared.turn.Turn.TheVariants.{On, Stopped, Ended}
+use Rattle.app_logs.specs.LogAnswers.{WatchesLog, WritesCutsUpTo}
 use Rattle.app_logs.specs.Reports.{AreCutLines, IsReportOn, cut_line, multiples}
 
 -- the line on all these events was written, and this came of their report
@@ -31,6 +32,12 @@ WritesLast expected events judged before after outcome =
     KeepsLast events judged before after outcome
     ⊎ (((length events ≢ judged) ⊎ (judged ≡ 0)) × WritesCut expected events before after outcome)
 
+-- the judging goes on after a cut where what was expected came of it, and else stops there
+abbrev pub GoesOnBy : Outcome → Turn → Type 0
+GoesOnBy outcome On = outcome ≡ Met
+GoesOnBy outcome (Stopped followed) = (followed ≡ record { outcome = outcome; torn = false; late = None }) × (outcome ≢ Met)
+GoesOnBy outcome (Ended followed) = ⊥
+
 module _ (every : ℕ) (expected : Expected) (source_before source_after writer_before writer_after : Option (List ℕ)) where
   -- so many cuts were judged, each as expected, and no event after the last of them was taken
   pub record HasWatched (reading : Reading) (count : ℕ) : Type 0 where
@@ -42,7 +49,8 @@ module _ (every : ℕ) (expected : Expected) (source_before source_after writer_
     pub lines : AreCutLines expected reading.log.events (multiples every count) said Met
     pub written : Appends writer_before writer_after said
 
-  -- one cut more was, or that was the end
-  abbrev pub IsTurn : Reading → ℕ → Option Followed → Type 0
-  IsTurn reading count None = HasWatched reading (suc count)
-  IsTurn reading count (Some followed) = WatchesLog every expected source_before source_after writer_before writer_after followed
+  -- one cut more was, or the judging stopped there, or that was the end
+  abbrev pub IsTurn : Reading → ℕ → Turn → Type 0
+  IsTurn reading count On = HasWatched reading (suc count)
+  IsTurn reading count (Stopped followed) = WritesCutsUpTo every expected source_before writer_before writer_after followed
+  IsTurn reading count (Ended followed) = WatchesLog every expected source_before source_after writer_before writer_after followed

@@ -6,7 +6,7 @@ use Rattle.app_explanations.proofs.FindingForms.{findings_depth, findings_have_n
 use Rattle.app_explanations.proofs.finding_forms.findings_text.Goals as goal
 
 pub line_of_value-requires-clause-no_float : goal.line_of_value-requires-clause-no_float
-line_of_value-requires-clause-no_float c = ap has_float c.in_ok-value.ensures ∙ findings_have_no_float c.args.findings.now
+line_of_value-requires-clause-no_float c = ap has_float c.in_ok-value.ensures ∙ findings_have_no_float c.args.findings.now c.args.remarks.now
 
 pub line_of_value-requires-clause-nests : goal.line_of_value-requires-clause-nests
-line_of_value-requires-clause-nests c = subst (λ d. depth d ≤ max_depth) (sym c.in_ok-value.ensures) (findings_depth c.args.findings.now)
+line_of_value-requires-clause-nests c = subst (λ d. depth d ≤ max_depth) (sym c.in_ok-value.ensures) (findings_depth c.args.findings.now c.args.remarks.now)

@@ -1,8 +1,8 @@
 -- Turn by turn, so many cuts were judged.
-use Rattle.std.proofs.Common.{Option, suc, subst}
+use Rattle.std.proofs.Common.{inr, suc, subst}
 use Rattle.std.proofs.lemmas.Result.{err_from_is_err_and}
 use Rattle.app_logs.specs.Steps.Watching.{IsTurn}
-use Rattle.app_logs.specs.declared.following.Followed.{Followed}
+use Rattle.app_logs.specs.declared.turn.Turn.{Turn}
 use Rattle.app_logs.proofs.Watched.{first-cuts, watched-none}
 use Rattle.app_logs.proofs.watching.watch_from.Goals as goal
 
@@ -13,35 +13,43 @@ cuts-init g c = (
       c.args.reader.now c.requires.unread,
 )
 
-pub returns-in_err-followed-clause-error : goal.returns-in_err-followed-clause-error
-returns-in_err-followed-clause-error g c =
+pub returns-in_err-turn-clause-error : goal.returns-in_err-turn-clause-error
+returns-in_err-turn-clause-error g c =
     let p = err_from_is_err_and c.from_residual.result c.from_residual.ensures.1 in
     rw (p.1, p.2)
-    (c.in_err-followed.ensures.error (g.R.Source.remaining c.args.source.now) (g.W.Write.contents c.args.writer.now) c.cuts.invariant.0 c.cuts.invariant.1)
+    (c.in_err-turn.ensures.error (g.R.Source.remaining c.args.source.now) (g.W.Write.contents c.args.writer.now) c.cuts.invariant.0 c.cuts.invariant.1)
 
-pub returns-in-Some-clause-watched : goal.returns-in-Some-clause-watched
-returns-in-Some-clause-watched g c =
+pub returns-in-Ended-clause-watched : goal.returns-in-Ended-clause-watched
+returns-in-Ended-clause-watched g c =
     let first = g.R.Source.remaining c.args.source.now in
     let written = g.W.Write.contents c.args.writer.now in
-    subst (λ (o : Option Followed). IsTurn c.args.watch.now.every c.args.watch.now.expected first (g.R.Source.remaining c.turn.new.source) written
-    (g.W.Write.contents c.turn.new.writer) c.turn.new.reader c.cuts.invariant.0 o) c.in-Some.is
-    (c.in_ok-followed.ensures.turn first written c.cuts.invariant.0 c.cuts.invariant.1)
+    subst (λ (o : Turn). IsTurn c.args.watch.now.every c.args.watch.now.expected first (g.R.Source.remaining c.turn.new.source) written
+    (g.W.Write.contents c.turn.new.writer) c.turn.new.reader c.cuts.invariant.0 o) c.in-Ended.is
+    (c.in_ok-turn.ensures.turn first written c.cuts.invariant.0 c.cuts.invariant.1)
+
+pub returns-in-Stopped-clause-watched : goal.returns-in-Stopped-clause-watched
+returns-in-Stopped-clause-watched g c =
+    let first = g.R.Source.remaining c.args.source.now in
+    let written = g.W.Write.contents c.args.writer.now in
+    inr (subst (λ (o : Turn). IsTurn c.args.watch.now.every c.args.watch.now.expected first (g.R.Source.remaining c.turn.new.source) written
+    (g.W.Write.contents c.turn.new.writer) c.turn.new.reader c.cuts.invariant.0 o) c.in-Stopped.is
+    (c.in_ok-turn.ensures.turn first written c.cuts.invariant.0 c.cuts.invariant.1))
 
 pub cuts-preserved : goal.cuts-preserved
 cuts-preserved g c =
     let first = g.R.Source.remaining c.args.source.now in
     let written = g.W.Write.contents c.args.writer.now in (
       suc c.cuts.invariant.0,
-      subst (λ (o : Option Followed). IsTurn c.args.watch.now.every c.args.watch.now.expected first (g.R.Source.remaining c.turn.new.source) written
-          (g.W.Write.contents c.turn.new.writer) c.turn.new.reader c.cuts.invariant.0 o) c.in_default.is
-          (c.in_ok-followed.ensures.turn first written c.cuts.invariant.0 c.cuts.invariant.1),
+      subst (λ (o : Turn). IsTurn c.args.watch.now.every c.args.watch.now.expected first (g.R.Source.remaining c.turn.new.source) written
+          (g.W.Write.contents c.turn.new.writer) c.turn.new.reader c.cuts.invariant.0 o) c.in-On.is
+          (c.in_ok-turn.ensures.turn first written c.cuts.invariant.0 c.cuts.invariant.1),
     )
 
-pub returns-in_err-followed-clause-first_cuts : goal.returns-in_err-followed-clause-first_cuts
-returns-in_err-followed-clause-first_cuts g c =
+pub returns-in_err-turn-clause-first_cuts : goal.returns-in_err-turn-clause-first_cuts
+returns-in_err-turn-clause-first_cuts g c =
     let p = err_from_is_err_and c.from_residual.result c.from_residual.ensures.1 in
     rw (p.1, p.2)
-    (c.in_err-followed.ensures.first_cuts (g.R.Source.remaining c.args.source.now) (g.W.Write.contents c.args.writer.now) c.cuts.invariant.0 c.cuts.invariant.1)
+    (c.in_err-turn.ensures.first_cuts (g.R.Source.remaining c.args.source.now) (g.W.Write.contents c.args.writer.now) c.cuts.invariant.0 c.cuts.invariant.1)
 
 pub returns-clause-first_cuts : goal.returns-clause-first_cuts
 returns-clause-first_cuts g c = λ other.

@@ -21,10 +21,10 @@ returns-in_ok-outcome-in-More-clause-turn g c = λ first written count watched.
     let after = g.R.Source.remaining c.read.new.source in
     turned-more c.args.self.now.every c.args.self.now.expected first written before after (g.W.Write.contents c.args.writer.now)
     (g.W.Write.contents c.write_cut.new.writer) c.args.reader.now c.read.new.self count c.events-judged.result c.in_ok-wanted.wanted c.log-in-More.result.now
-    c.in_ok-outcome-in-More.outcome c.stopped.result watched
+    c.in_ok-outcome-in-More.outcome c.turn_of.result watched
     (subst (λ (p : Progress). Reads before after c.args.reader.now c.read.new.self p) c.in-More.is c.in_ok-read.ensures.read) c.read.ensures.extends
     (c.events-judged.ensures.count ∙ ap length c.log.ensures) c.in_ok-wanted.ensures.next (c.in_ok-read.ensures.enough (ap (λ p. Ok p) c.in-More.is))
-    c.in_ok-read.ensures.few c.log-in-More.ensures c.in_ok-outcome-in-More.ensures.written c.stopped.ensures.some c.stopped.ensures.none
+    c.in_ok-read.ensures.few c.log-in-More.ensures c.in_ok-outcome-in-More.ensures.written c.turn_of.ensures
 
 pub returns-in_ok-outcome-in-End-clause-turn : goal.returns-in_ok-outcome-in-End-clause-turn
 returns-in_ok-outcome-in-End-clause-turn g c = λ first written count watched.

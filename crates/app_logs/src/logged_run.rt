@@ -1,0 +1,166 @@
+//! The run that a log records, with what answers to it are made of.
+
+ghost use Rattle.std.specs.Prelude.{◌≡◌, IfErr, IfOk, IfSome, OnOk, string_bytes};
+ghost use Rattle.std.specs.Io.KnownBytes.{IsAtEnd};
+ghost use Rattle.log_reader.specs.Logs.{IsLogOf};
+ghost use Rattle.app_explanations.specs.ExplanationTexts.{IsExplainedAs};
+ghost use Rattle.app_explanations.specs.ListTexts.{IsListOf};
+ghost use Rattle.app_logs.specs.LogAnswers.{IsLogAnswer, IsLogError};
+ghost use Rattle.app_logs.specs.Reports.{IsReportOn, any_history_of};
+
+use crate::answering::answer_of_report;
+use crate::failure::LogError;
+use crate::line_numbers::lines_text;
+use crate::noting::notes_text;
+use crate::reading::{WholeLog, read_log};
+use crate::writing::{history_text, names_text};
+use app_command_line::{LogJudging, LogOrder};
+use app_engine::{
+    Answered, Findings, RunError, SessionWork, WorkerThreads, explained_as, list_in_long,
+    report_on_long,
+};
+use json_lines::Source;
+use judge_memory::LongHistory;
+use log_events::LoggedCall;
+use log_reader::EventReader;
+use order_causal::Rows;
+use show_log_names::LogNames;
+use std::alloc::{AllocError, Global};
+use std::marker::Model;
+use std::sync::Wait;
+use std::thread::Threads;
+
+/// The run that a log records: the log, which was read to its end, its history, and what it says of the operations of that history.
+///
+/// It answers any number of orders, and reads the log once.
+#[derive(Drop)]
+pub struct LoggedRun {
+    pub(crate) reader: EventReader,
+    torn: bool,
+    history: LongHistory,
+    /// For each session of the history, the calls that its operations represent.
+    pub(crate) calls: Rows<LoggedCall>,
+    /// The keys with reads that are left out, each with the number of these reads.
+    pub(crate) left_out: Vec<(u32, u32)>,
+}
+
+impl Model for LoggedRun {
+    ghost use Rattle.std.specs.Prelude.{◌≡◌};
+    ghost use Rattle.log_events.specs.Histories.{history_of};
+    ghost use Rattle.app_logs.specs.ReadLogs.{ReadLog};
+
+    ghost Value = { ReadLog };
+
+    ghost view = { λ run. record { log = run.reader.log; torn = run.torn } };
+
+    ghost invariant = { λ run. run.history ≡ history_of run.reader.log.events };
+}
+
+impl LoggedRun {
+    /// Reads the log that a source has, with its notes, one event a line. Appends what is said of a line that is refused.
+    ///
+    /// Fails with the first line that is refused, for want of memory, and where the source fails. O(n log n) for n calls and clients, and
+    /// O(n) for n bytes.
+    pub fn read<R: Source>(
+        alloc: Global,
+        source: &mut R,
+        told: &mut String,
+    ) -> Result<LoggedRun, LogError>
+        ensures whole { IfOk result (λ run. IfSome (R.remaining source.old) (λ bytes. IsLogOf bytes run.log run.torn)) }
+        ensures end { OnOk result (IsAtEnd (R.remaining source.new)) }
+        ensures error { IfErr result (IsLogError (R.remaining source.old)) }
+    {
+        let whole = read_log(alloc, source, true, told)?;
+        Ok(LoggedRun::of(alloc, whole)?)
+    }
+
+    /// The run of a log that was read.
+    ///
+    /// Fails for want of memory alone. O(n log n) for n calls and clients.
+    pub(crate) fn of(alloc: Global, whole: WholeLog) -> Result<LoggedRun, AllocError>
+        ensures log { IfOk result (λ run. run.log ≡ whole.reader.log) }
+        ensures torn { IfOk result (λ run. run.torn ≡ whole.torn) }
+    {
+        let WholeLog { reader, torn } = whole;
+        let history = reader.log().history(alloc)?;
+        let calls = reader.log().origins(alloc)?;
+        let left_out = reader.log().left_out(alloc)?;
+        Ok(LoggedRun {
+            reader,
+            torn,
+            history,
+            calls,
+            left_out,
+        })
+    }
+
+    /// Whether the log's last line is not whole, and was passed over.
+    pub fn torn(&self) -> bool
+        ensures { result ≡ self.now.torn }
+    {
+        self.torn
+    }
+
+    /// The answer to an order on the log. It is given once: `every` of an order to judge is passed over.
+    ///
+    /// Fails for want of memory alone. O(n (k + log n)) for a history of n operations in k sessions.
+    pub fn answer<T: Threads + Wait + Sync>(
+        &self,
+        rt: &T,
+        alloc: Global,
+        order: &LogOrder,
+    ) -> Result<Answered, LogError>
+        ensures answer { IfOk result (λ answer. IsLogAnswer order.now self.now.log (string_bytes answer.text) answer.outcome) }
+        ensures error { IfErr result (λ e. e ≡ LogError.Memory) }
+    {
+        match order {
+            LogOrder::Judge(judging) => self.judged(rt, alloc, *judging),
+            LogOrder::Explain(form) => {
+                let names = LogNames { tables: self };
+                Ok(Answered::met(explained_as(rt, alloc, &self.history, &names, *form)?))
+            }
+            LogOrder::ListFaults(most, form) => {
+                let names = LogNames { tables: self };
+                Ok(Answered::met(list_in_long(rt, alloc, &self.history, &names, *most, *form)?))
+            }
+            LogOrder::WriteHistory => Ok(Answered::met(history_text(alloc, &self.history)?)),
+            LogOrder::WriteNames => Ok(Answered::met(names_text(alloc, &self.reader)?)),
+            LogOrder::WriteNotes => Ok(Answered::met(notes_text(alloc, &self.reader)?)),
+        }
+    }
+
+    // The answer to an order to judge.
+    fn judged<T: Threads + Wait + Sync>(
+        &self,
+        rt: &T,
+        alloc: Global,
+        judging: LogJudging,
+    ) -> Result<Answered, LogError>
+        ensures answer { IfOk result (λ answer.
+            IsLogAnswer (LogOrder.Judge judging) self.now.log (string_bytes answer.text) answer.outcome) }
+        ensures error { IfErr result (λ e. e ≡ LogError.Memory) }
+    {
+        let work = WorkerThreads::of(rt, judging.workers);
+        let report = self.report(&work, alloc)?;
+        answer_of_report(alloc, report, judging)
+    }
+
+    // The report on the log.
+    fn report<W: SessionWork>(&self, work: &W, alloc: Global) -> Result<Findings, RunError>
+        requires { W.can_work work.now }
+        ensures report { IfOk result (IsReportOn self.now.log.events) }
+        ensures error { IfErr result (λ e. e ≡ RunError.Memory) }
+    {
+        let report = report_on_long(work, alloc, &self.history)?;
+        Ok(report)
+    }
+
+    /// The lines of its calls as JSON and a line feed: for each session of the history a list with the line of each operation, from 1. That
+    /// is the line on which its call begins. Where the line of its end has a note, the operation has a list of both lines.
+    ///
+    /// A lost write that was read is three operations with the same lines. Fails for want of memory alone. O(n) for n calls and bytes of
+    /// their notes. Tests, not proofs, cover which lines these are.
+    pub fn call_lines(&self, alloc: Global) -> Result<String, AllocError> {
+        lines_text(alloc, &self.reader, &self.calls)
+    }
+}

@@ -1,0 +1,115 @@
+//! Work whose progress is shown.
+
+ghost use Rattle.std.specs.Prelude.{◌≤◌};
+
+use crate::asked_input::{Given, STANDARD_INPUT, status_by};
+use crate::progress::Progress;
+use crate::progress_view::ProgressView;
+use app_command_line::{Asked, LogOrder, Order, Task};
+use std::io::Read;
+use std::rt::{Env, Files};
+use std::sync::Wait;
+use std::thread::Threads;
+use std::time::Clock;
+use std::{fs, thread};
+
+/// What is said of how far the work is, where that was asked for or somebody may look at a terminal and does not type the input there.
+pub(crate) fn view_of<'a, P: Files>(
+    given: &Given<'a, P>,
+    asked: &Asked,
+) -> Option<ProgressView<'a>> {
+    let terminals = given.terminals;
+    let is_typed = terminals.input && given.input == STANDARD_INPUT;
+    if !asked.manner.progress && (!terminals.error || is_typed) {
+        return None;
+    }
+    Some(ProgressView {
+        label: given.place.label,
+        work: work_of(&asked.task),
+        is_gradual: is_gradual(&asked.task),
+        size: size_of(given.place.rt, given.input),
+        is_asked_for: asked.manner.progress,
+        is_terminal: terminals.error,
+        shares_terminal: terminals.error && terminals.output,
+    })
+}
+
+/// Does what is asked for on an input that a reader has, while another thread shows how far that is, and returns the exit status.
+pub(crate) fn status_shown<
+    P: Env + Files + Threads + Wait + Sync + AllocGlobal + Print + Eprint + Clock,
+    R: Read + Drop + Send,
+>(given: &Given<'_, P>, view: ProgressView<'_>, reader: R, asked: &Asked) -> u8
+    ensures { result ≤ 6 }
+{
+    let rt = given.place.rt;
+    let progress = Progress::of(rt, view);
+    progress.show(rt);
+    let seen = Given {
+        place: given.place.with(&progress),
+        terminals: given.terminals,
+        words: given.words,
+        input: given.input,
+        rest: given.rest,
+    };
+    let (_, status) = thread::join(
+        rt,
+        || progress.watch(rt),
+        || -> u8
+            ensures { result ≤ 6 }
+        {
+            let status = status_by(&seen, reader, asked);
+            progress.end(rt);
+            status
+        },
+    );
+    status
+}
+
+// How many bytes an input has, where it is a plain file.
+fn size_of<P: Files>(rt: &P, input: &str) -> Option<u64> {
+    let path = if input == STANDARD_INPUT {
+        "/dev/stdin"
+    } else {
+        input
+    };
+    match fs::metadata(rt, path) {
+        Ok(found) if found.is_file() => Some(found.len()),
+        _ => None,
+    }
+}
+
+// What is done with an input once it is read.
+fn work_of(task: &Task) -> &'static str {
+    match task {
+        Task::OfInput(order, _) => work_of_order(order),
+        Task::OfPage(_, _) => "explaining",
+        Task::OfLog(order) => work_of_log(order),
+    }
+}
+
+fn work_of_order(order: &Order) -> &'static str {
+    match order {
+        Order::Judge(_) | Order::JudgeLines(_) => "judging",
+        Order::Check(_) | Order::Refute(_) => "checking",
+        Order::Explain(_) | Order::ExplainLong(_) | Order::ListFaults(_) => "explaining",
+        Order::Replay => "replaying",
+        Order::Drive(_) => "driving",
+    }
+}
+
+fn work_of_log(order: &LogOrder) -> &'static str {
+    match order {
+        LogOrder::Judge(_) => "judging",
+        LogOrder::Explain(_) | LogOrder::ListFaults(_, _) => "explaining",
+        LogOrder::WriteHistory | LogOrder::WriteNames | LogOrder::WriteNotes => "writing",
+    }
+}
+
+// Whether that is done while the input is read.
+fn is_gradual(task: &Task) -> bool {
+    match task {
+        Task::OfInput(Order::JudgeLines(_), _) => true,
+        Task::OfLog(LogOrder::Judge(judging)) => judging.every.is_some(),
+        _ => false,
+    }
+}
