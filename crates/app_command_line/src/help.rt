@@ -1,7 +1,7 @@
 //! What the help says beside the commands and their options.
 
 /// The version of the program, as in the file VERSION, and the kit that proves it.
-pub const VERSION: &str = "0.1.0 (rattle-kit-13f logic dac8208d650f15bf)";
+pub const VERSION: &str = "0.1.0 (rattle-kit-13b logic dac8208d650f15bf)";
 
 /// What the program is for.
 pub const ABOUT: &str =
