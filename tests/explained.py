@@ -82,7 +82,8 @@ def remark_faults(program, form, reasons, accepted):
     rest = said(program, ["judge"], plain_remarks.without(form, repeated))[1] if repeated else ""
     for criterion, word, shown, *beside in reasons:
         due = plain_remarks.on_pattern(shown) if word == "no" else plain_remarks.on_unknown(criterion, repeated, rest) if word == "unknown" else []
-        accepted[f"{criterion} {word} with {due[0] if word == 'no' else 'variables left out'}"] += bool(due)
+        if due:
+            accepted[f"{criterion} {word} with {due[0] if word == 'no' else 'variables left out'}"] += 1
         if beside != due:
             found.append(f"beside {shown!r} of {criterion} stands {beside!r}, due {due!r}")
     return found
