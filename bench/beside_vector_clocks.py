@@ -24,6 +24,7 @@ import tempfile
 from typing import NamedTuple
 
 sys.path.insert(0, str(pathlib.Path(__file__).resolve().parent.parent / "tests"))
+import folders  # noqa: E402, F401
 from compare import lines_of  # noqa: E402
 from long_speed import chosen, run  # noqa: E402
 from running import print_table  # noqa: E402

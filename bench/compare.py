@@ -22,6 +22,7 @@ import sys
 import tempfile
 
 sys.path.insert(0, str(pathlib.Path(__file__).resolve().parent.parent / "tests"))
+import folders  # noqa: E402, F401
 from command_words import CRITERIA, with_program  # noqa: E402
 from running import print_table, started  # noqa: E402
 

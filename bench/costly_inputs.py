@@ -17,6 +17,7 @@ from typing import Callable, NamedTuple
 import full_script
 
 sys.path.insert(0, str(pathlib.Path(__file__).resolve().parent.parent / "tests"))
+import folders  # noqa: E402, F401
 import short_runs  # noqa: E402
 from objects import MOST_KEY, MOST_NUMBER, UNKNOWN, State, operation  # noqa: E402
 

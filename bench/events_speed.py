@@ -3,14 +3,14 @@
 
     python3 bench/events_speed.py [--folder DIR] [--rounds N] [--percent N] [--only WORD] -- PROGRAM
 
-The logs are those of RUNS below, or N percent of them: runs of the stores of tests/store_runs.py, in which a client's call ends at its
+The logs are those of RUNS below, or N percent of them: runs of the stores of tests/generators/store_runs.py, in which a client's call ends at its
 next turn. A log with lost writes is the one before it, in which so many writes, each of them read, end as `lost`. The logs and their
 histories are kept in the folder that is named, and made where they are not there.
 
 Of each log the table has its lines and megabytes; the processor time of the whole process, user and system, by one worker, for the log
 and for its history, the least of N rounds (4 unless given) in which the two take turns, and by how many times the log takes longer; and
 the most memory that was resident, in megabytes. The lines below it say what lost writes add. The status is 1 where a run does not keep to
-the bounds of `faults`, which tests/events.py asks for too.
+the bounds of `faults`, which tests/process/events.py asks for too.
 """
 
 import argparse
@@ -22,6 +22,7 @@ import tempfile
 from typing import NamedTuple
 
 sys.path.insert(0, str(pathlib.Path(__file__).resolve().parent.parent / "tests"))
+import folders  # noqa: E402, F401
 import store_runs  # noqa: E402
 from command_words import with_program  # noqa: E402
 from compare import lines_of  # noqa: E402

@@ -3,7 +3,7 @@
 
     python3 bench/histories.py OUTDIR
 
-They are those of tests/short_runs.py: runs of a replicated store, and beside each the same history with one fault. The files are named
+They are those of tests/generators/short_runs.py: runs of a replicated store, and beside each the same history with one fault. The files are named
 SIZE-SHAPE-STATE.json, such as 16x256-keys64-healthy.json. The shapes are keys1, keys64 and mutual; a state is healthy, or one of the faults
 stale, thin, init and swap.
 """
@@ -13,6 +13,7 @@ import pathlib
 import sys
 
 sys.path.insert(0, str(pathlib.Path(__file__).resolve().parent.parent / "tests"))
+import folders  # noqa: E402, F401
 from short_runs import SESSIONS, SHAPES, SIZES, histories_of, text_of  # noqa: E402
 
 

@@ -4,7 +4,7 @@
     python3 bench/lines_speed.py HISTORIES [--full N] [--small N] [--rounds N] -- PROGRAM
 
 HISTORIES is a folder that histories.py made. Two inputs are measured: N lines (96 by default) that are its healthy histories of 16 sessions of
-256 operations in turn, and N small histories (200,000 by default) as those of tests/lines.py. For k of 1 to 4 one run has `judge --lines
+256 operations in turn, and N small histories (200,000 by default) as those of tests/process/lines.py. For k of 1 to 4 one run has `judge --lines
 --workers k` judge all lines; beside it, k processes with one worker each judge a k-th of the lines, all at the same time. Both are done in turn,
 N rounds (7 by default), and the table has the medians of the rounds:
 
@@ -27,6 +27,7 @@ import tempfile
 import time
 
 sys.path.insert(0, str(pathlib.Path(__file__).resolve().parent.parent / "tests"))
+import folders  # noqa: E402, F401
 from command_words import with_program  # noqa: E402
 from lines import small_history  # noqa: E402
 from running import print_table, started  # noqa: E402

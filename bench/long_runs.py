@@ -4,11 +4,11 @@
     python3 bench/long_runs.py [--fault KIND] [--width N] [--lost N] [--writes PERCENT] [--gap N] \
         STORE SESSIONS OPERATIONS KEYS SEED > HISTORY
 
-Each history is a run of a store of tests/store_runs.py: of `arrival`, which meets cc and cm, of `stamps`, which meets cc and ccv, or of
+Each history is a run of a store of tests/generators/store_runs.py: of `arrival`, which meets cc and cm, of `stamps`, which meets cc and ccv, or of
 `copy`, which meets all three. A session takes in what another one has each N of its own operations on average (8 unless given). The
 sessions have OPERATIONS operations in all: PERCENT of a hundred (50 unless given) are writes, of KEYS keys at random.
 
-With `--fault`, operations of new keys are added, as tests/planted.py has them: at the beginning of some sessions, before all else, and at
+With `--fault`, operations of new keys are added, as tests/generators/planted.py has them: at the beginning of some sessions, before all else, and at
 the end. They show a kind, or two, and of a wide fault through many sessions: N is its width.
 
 `--lost N` takes the answer away from N writes whose values are read. Each of them gets a session of its own. A write of a new key stands in
@@ -21,6 +21,7 @@ import pathlib
 import sys
 
 sys.path.insert(0, str(pathlib.Path(__file__).resolve().parent.parent / "tests"))
+import folders  # noqa: E402, F401
 from planted import FAULTS  # noqa: E402
 from store_runs import STORES, history, pieces  # noqa: E402
 

@@ -31,6 +31,7 @@ import time
 from typing import NamedTuple
 
 sys.path.insert(0, str(pathlib.Path(__file__).resolve().parent.parent / "tests"))
+import folders  # noqa: E402, F401
 from command_words import CRITERIA, with_program  # noqa: E402
 from compare import lines_of  # noqa: E402
 from running import made, print_table, started  # noqa: E402

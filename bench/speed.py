@@ -26,6 +26,7 @@ import tempfile
 import time
 
 sys.path.insert(0, str(pathlib.Path(__file__).resolve().parent.parent / "tests"))
+import folders  # noqa: E402, F401
 from beside import SHAPES, SIZES, instructions  # noqa: E402
 from command_words import with_program  # noqa: E402
 from compare import build_peer, run_once  # noqa: E402

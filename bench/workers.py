@@ -34,6 +34,7 @@ import tempfile
 import time
 
 sys.path.insert(0, str(pathlib.Path(__file__).resolve().parent.parent / "tests"))
+import folders  # noqa: E402, F401
 from command_words import with_program  # noqa: E402
 from running import print_table, started  # noqa: E402
 

@@ -3,7 +3,7 @@
 
     python3 embed/compare.py SEED COUNT [--threads N]
 
-The inputs are those of tests/mangled.py for judge, check, explain and refute, and one that is too long. Each is put to the library
+The inputs are those of tests/process/mangled.py for judge, check, explain and refute, and one that is too long. Each is put to the library
 three times, by N threads side by side (4 by default): as a caller does, with a buffer of just as many bytes as the text has, and
 with a smaller one, which has to stay as it was. embed/run.py builds what this needs. It prints how many inputs came to which
 status, and ends with status 1 where there is a difference.
@@ -24,6 +24,7 @@ HERE = pathlib.Path(__file__).resolve().parent
 sys.path.insert(0, str(HERE.parent / "tests"))
 
 import causal_judge  # noqa: E402
+import folders  # noqa: E402, F401
 from counting import end  # noqa: E402
 from mangled import mangled  # noqa: E402
 

@@ -21,6 +21,7 @@ import sys
 HERE = pathlib.Path(__file__).resolve().parent
 ROOT = HERE.parent
 sys.path.insert(0, str(ROOT / "tests"))
+import folders  # noqa: E402, F401
 from counting import end  # noqa: E402
 
 OUT = HERE / "out"

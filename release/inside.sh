@@ -148,7 +148,7 @@ else
         SKIPPED=$((SKIPPED + 4))
     fi
 fi
-SAID=$(python3 /given/tests/documents.py --root "$DOC" --page README.md -- "$(command -v causal_judge)" 2>&1)
+SAID=$(python3 /given/tests/process/documents.py --root "$DOC" --page README.md -- "$(command -v causal_judge)" 2>&1)
 read -r PAGES_PASSED PAGES_FAILED < <(echo "$SAID" | tail -1 | sed -n 's/^\([0-9]*\) passed, \([0-9]*\) failed.*/\1 \2/p')
 [ "${PAGES_PASSED:-0}" != 0 ] && [ "${PAGES_FAILED:-1}" = 0 ] || echo "$SAID"
 echo "$NAME: $PAGES_PASSED commands of README.md as it shows them"

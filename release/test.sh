@@ -75,7 +75,7 @@ for name in ${NAMES:-tarball deb wheel}; do
     mkdir -p "$below/given/packages" "$below/proc"
     cp "$OUT"/*.tar.gz "$OUT"/*.deb "$OUT"/*.whl "$below/given/packages"
     cp -r "$ROOT/tests" "$HERE/inside.sh" "$below/given"
-    python3 "$ROOT/tests/documents.py" --installs "$name" > "$below/given/install.$name"
+    python3 "$ROOT/tests/process/documents.py" --installs "$name" > "$below/given/install.$name"
     if mount -t proc proc "$below/proc" 2> /dev/null; then BOUND=$below/proc; fi
     chroot "$below" /usr/bin/env -i PATH=/usr/local/bin:/usr/bin:/usr/sbin:/bin:/sbin \
         bash /given/inside.sh "$name" "$(cat "$ROOT/VERSION")" < /dev/null > "$ROOM/said" 2>&1 || true

@@ -24,6 +24,7 @@ import time
 from concurrent.futures import ThreadPoolExecutor, as_completed
 from typing import Callable, NamedTuple
 
+import folders  # noqa: F401
 from counting import end, read_last_line
 from streams import is_unproved
 
@@ -55,8 +56,8 @@ class Given(NamedTuple):
         return str(max(1, (longest if self.is_long else usual) * self.size // 100))
 
     def of(self, name, *words):
-        """The words that run a script of this folder over the program."""
-        return [f"tests/{name}.py", *words, "--", self.program]
+        """The words that run a test over the program."""
+        return [f"tests/process/{name}.py", *words, "--", self.program]
 
     def longer(self):
         return ["--long"] if self.is_long else []
@@ -93,14 +94,14 @@ PARTS = (
     Part("tables", lambda given: given.of("tables")),
     Part("file_operands", lambda given: given.of("file_operands")),
     Part("progress", lambda given: given.of("progress")),
-    Part("tables_by_rattle", lambda given: ["tests/tables.py", "--", str(by_rattle(given))], file=by_rattle, install="rt ci builds it"),
-    Part("error_numbers", lambda given: ["tests/error_numbers.py"]),
-    Part("architecture", lambda given: ["tests/architecture.py"]),
+    Part("tables_by_rattle", lambda given: ["tests/process/tables.py", "--", str(by_rattle(given))], file=by_rattle, install="rt ci builds it"),
+    Part("error_numbers", lambda given: ["tests/process/error_numbers.py"]),
+    Part("architecture", lambda given: ["tests/process/architecture.py"]),
     Part("documents", lambda given: given.of("documents", *given.longer()), ("bash",)),
     Part("python_package", lambda given: given.of("python_package", *given.longer())),
     Part("java_recorder", lambda given: given.of("java_recorder"), ("java", "javac")),
     Part("live_stores", lambda given: given.of("live_stores", *given.longer())),
-    Part("driver_errors", lambda given: ["tests/driver_errors.py"], is_long=True),
+    Part("driver_errors", lambda given: ["tests/process/driver_errors.py"], is_long=True),
     Part("cluster", lambda given: given.of("cluster", *given.longer())),
     Part("recorded_stores", lambda given: given.of("recorded_stores", given.many(1_000, 20_000))),
     Part("mangled", lambda given: given.of("mangled", "1", "--count", given.many(3_000, 200_000))),
@@ -112,7 +113,7 @@ PARTS = (
     Part("live_clients", lambda given: given.of("live_clients")),
     Part("large_inputs", lambda given: given.of("large_inputs")),
     Part("full_drives", lambda given: given.of("driven", "2", given.many(4, 60), "--full", "--object", "memory")),
-    Part("unnamed", lambda given: ["tests/unnamed.py"], is_long=True),
+    Part("unnamed", lambda given: ["tests/process/unnamed.py"], is_long=True),
     Part("full_drives_of_all", lambda given: given.of("driven", "3", given.many(0, 40), "--full"), is_long=True),
     Part("explained", lambda given: given.of("explained", "1", given.many(200, 4_000))),
     Part("explained_long", lambda given: given.of("explained_long", "1", given.many(150, 3_000))),

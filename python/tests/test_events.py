@@ -10,6 +10,8 @@ import unittest
 from causal_judge.events import LogError, LogReader, Progress, check_event, check_name, check_value, is_same, line_of, read_log
 from support import NAMES, NO_NAMES, NO_VALUES, REPOSITORY, VALUES, many
 
+PLAIN = REPOSITORY / "tests" / "plain"
+
 
 class Forms(unittest.TestCase):
     def test_names_and_values(self):
@@ -131,11 +133,11 @@ class Reading(unittest.TestCase):
             with self.assertRaisesRegex(LogError, "line 1: has more than 1,000,000 bytes"):
                 read(line)
 
-    @unittest.skipUnless((REPOSITORY / "tests" / "plain_events.py").is_file(), "skipped: the repository's tests are not beside the package")
+    @unittest.skipUnless(PLAIN.is_dir(), "skipped: the repository's tests are not beside the package")
     def test_mangled_logs(self):
         """The reader and Progress take the logs that the plain reader of the repository takes, and refuse the same line of the others."""
-        sys.path.insert(0, str(REPOSITORY / "tests"))
-        self.addCleanup(sys.path.remove, str(REPOSITORY / "tests"))
+        sys.path.insert(0, str(PLAIN))
+        self.addCleanup(sys.path.remove, str(PLAIN))
         import plain_events
 
         rng, refused = random.Random(52), 0

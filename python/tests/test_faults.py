@@ -15,6 +15,7 @@ from support import REPOSITORY, FolderCase, many, needs_program, write_log
 REPOSITORY_TESTS = REPOSITORY / "tests"
 if REPOSITORY_TESTS.is_dir():
     sys.path.insert(0, str(REPOSITORY_TESTS))
+    import folders  # noqa: F401
     import plain_events
     import random_logs
 

@@ -12,7 +12,7 @@ import causal_judge
 from causal_judge.program import find_program
 from support import DEBIAN_PYTHON, IS_LONG, PACKAGE, REPOSITORY, SECONDS, is_module_there, needs_modules, needs_program, run_python
 
-PAGES = REPOSITORY / "tests" / "documents.py"
+PAGES = REPOSITORY / "tests" / "process" / "documents.py"
 INSTALL = "apt-get install python3-venv python3-setuptools python3-wheel"
 IGNORED = shutil.ignore_patterns("build", "*.egg-info", "__pycache__")
 
