@@ -96,6 +96,7 @@ PARTS = (
     Part("tables_by_rattle", lambda given: ["tests/tables.py", "--", str(by_rattle(given))], file=by_rattle, install="rt ci builds it"),
     Part("error_numbers", lambda given: ["tests/error_numbers.py"]),
     Part("architecture", lambda given: ["tests/architecture.py"]),
+    Part("trusted", lambda given: ["tests/trusted.py"]),
     Part("documents", lambda given: given.of("documents", *given.longer()), ("bash",)),
     Part("python_package", lambda given: given.of("python_package", *given.longer())),
     Part("java_recorder", lambda given: given.of("java_recorder"), ("java", "javac")),
