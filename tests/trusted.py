@@ -517,10 +517,10 @@ class Found:
 def head(found):
     """How much `judge` of a memory and of a log rests on."""
     texts = []
-    for what, keys, whole in (("memory", JUDGE, ("run", "app_engine::run")), ("log", LOGS, ("follow", "app_logs::follow_log"))):
+    for what, keys, whole, contract in (("memory", JUDGE, "run", "app_engine::run"), ("log", LOGS, "follow", "app_logs::follow_log")):
         texts.append(
-            f"- `judge` of a {what}: {found.size(keys[0])}, and with what it refuses {found.size(*keys)}. The contract of `{whole[1]}` states all"
-            f" orders at once, by {found.size(whole[0])}: the others are the cases of other orders, and of other objects."
+            f"- `judge` of a {what}: {found.size(keys[0])}; with what is refused, {found.size(*keys)}. `{contract}` states all orders in one"
+            f" contract, which takes {found.size(whole)}."
         )
     return "\n".join(textwrap.fill(text, WIDTH, subsequent_indent="  ") for text in texts)
 
