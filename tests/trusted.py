@@ -12,6 +12,7 @@ the page lacks it. `--show` prints the definitions of a promise by its key. Ends
 """
 
 import argparse
+import functools
 import pathlib
 import re
 import textwrap
@@ -208,6 +209,7 @@ COMMANDS = tuple(promise.key for promise in PROMISES[: 1 + [promise.key for prom
 # ---- Reading files
 
 
+@functools.cache
 def plain(line):
     """A line of antt without its strings and comments."""
     return re.sub(r"(^|\s)--(\s.*)?$", "", re.sub(r'"(?:[^"\\]|\\.)*"', " ", line)).rstrip()
@@ -263,6 +265,7 @@ class Definition:
     def __init__(self, module, name, marks, sections):
         self.module, self.name, self.marks, self.sections, self.lines = module, name, marks, sections, []
 
+    @functools.cached_property
     def pieces(self):
         """Its signature, and each of its equations: numbers of lines, with their text."""
         found = []
@@ -366,7 +369,7 @@ def bound_in(text):
 def scoped_texts(definition, cases):
     """What of a definition counts: numbers of lines and their text, with the variables that hide names there."""
     scope, own = definition.module.scope, definition.module.definitions
-    for place, (lines, text) in enumerate(definition.pieces()):
+    for place, (lines, text) in enumerate(definition.pieces):
         if place == 0 and "record" in definition.marks:
             fields = set()
             for part in re.split(r"(?=\bpub \S+ :)", text.split("record", 1)[1]):
@@ -429,7 +432,7 @@ def definition_of(path, word):
     module = module_at(path) or module_at(path.rpartition(".")[0])
     if module is None:
         return None
-    constructors = (it for it in module.definitions.values() if "data" in it.marks and f" {word} :" in " ".join(text for _, text in it.pieces()))
+    constructors = (it for it in module.definitions.values() if "data" in it.marks and f" {word} :" in " ".join(text for _, text in it.pieces))
     return module.definitions.get(word) or next(constructors, None)
 
 
@@ -569,7 +572,8 @@ def by_crate(paths, lines, kept):
     for path in paths:
         crate, _, name = module_at(path).title().partition("/")
         found.setdefault(crate, []).append(f"`{name}`: {states(path, kept)} ({lines[path]})")
-    return ["| crate | its files, what they state, and their lines |", "|---|---|", *(f"| `{crate}` | {'; '.join(of)} |" for crate, of in found.items())]
+    rows = [f"| `{crate}` | {'; '.join(cells)} |" for crate, cells in found.items()]
+    return ["| crate | its files, what they state, and their lines |", "|---|---|", *rows]
 
 
 def states(path, kept):
