@@ -202,7 +202,9 @@ PROMISES = (
         ("live_replica::replica act receive delivered", "live_causal_store::order delivered", "live_lamport_store::order delivered"),
     ),
 )
-# The promises on commands come first, up to these two, which state others at once.
+# The definition that says which operation an `unknown` of `judge` names.
+UNKNOWN = "EachNamesUnexplained"
+# The promises on commands come first, up to the one on all orders on a log.
 COMMANDS = tuple(promise.key for promise in PROMISES[: 1 + [promise.key for promise in PROMISES].index("follow")])
 
 
@@ -399,7 +401,8 @@ def named_by(definition, cases):
 class Reached:
     """What is reached from some names: definitions and their lines, types and constants of the code, the kit's words, and names that lead nowhere."""
 
-    def __init__(self, names, cases):
+    def __init__(self, names, cases, without=""):
+        self.without = without
         self.definitions, self.lines, self.types, self.kit, self.lost = set(), set(), set(), set(), set()
         seen, waiting = set(), list(names)
         while waiting:
@@ -411,6 +414,8 @@ class Reached:
     def take(self, name, cases):
         """Takes a name, and gives those that it leads to."""
         path, word = name
+        if word == self.without:
+            return ()
         if not is_ours(path):
             self.kit.add((path.split(".")[1], word))
         elif ".declared." in path:
@@ -485,14 +490,14 @@ def stated(functions):
     return found, missing
 
 
-def reached_by(promise):
-    """What a promise reaches, and the functions that were not found."""
+def reached_by(promise, without=""):
+    """What a promise reaches, also where a definition is left out, and the functions that were not found."""
     cases = {}
     for case in promise.cases.split():
         kind, variant = case.split(".")
         cases.setdefault(kind, set()).add(variant)
     names, missing = stated(promise.functions)
-    return Reached(names, cases), missing
+    return Reached(names, cases, without), missing
 
 
 # ---- The page
@@ -521,9 +526,11 @@ def head(found):
     """How much `judge` of a memory and of a log rests on."""
     texts = []
     for what, keys, whole, contract in (("memory", JUDGE, "run", "app_engine::run"), ("log", LOGS, "follow", "app_logs::follow_log")):
+        promise = next(promise for promise in PROMISES if promise.key == keys[0])
+        named = len(found.reached[keys[0]].lines - reached_by(promise, UNKNOWN)[0].lines)
         texts.append(
-            f"- `judge` of a {what}: {found.size(keys[0])}; with what is refused, {found.size(*keys)}. `{contract}` states all orders in one"
-            f" contract, which takes {found.size(whole)}."
+            f"- `judge` of a {what}: {found.size(keys[0])}, of which {named} say only which operation an `unknown` names; with what is refused,"
+            f" {found.size(*keys)}. `{contract}` states all orders in one contract, which takes {found.size(whole)}."
         )
     return "\n".join(textwrap.fill(text, WIDTH, subsequent_indent="  ") for text in texts)
 
