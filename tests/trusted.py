@@ -225,7 +225,7 @@ class Scope:
     """What a file imports: names, each with its module and its name there, and modules by the names that they have here."""
 
     def __init__(self):
-        self.names, self.modules, self.passed_on = {}, {}, {}
+        self.names, self.modules, self.passed_on, self.found = {}, {}, {}, {}
 
     def take_use(self, line):
         """Takes an import, and says whether the line is one."""
@@ -244,6 +244,13 @@ class Scope:
 
     def named_in(self, text, own=()):
         """The names that a text uses, each with what it is here: a module and a name, or None for a name of the file itself."""
+        key = (text, bool(own))
+        if key not in self.found:
+            self.found[key] = self.found_in(text, own)
+        return self.found[key]
+
+    def found_in(self, text, own):
+        """The same, read anew."""
         words = [word.lstrip("λ") for word in words_of(text)]
         found = set()
         for name in (*self.names, *own):
@@ -360,6 +367,7 @@ def is_kept(head, scope, cases):
     return True
 
 
+@functools.cache
 def bound_in(text):
     """The variables that a text binds by λ or with a type."""
     found = set()
