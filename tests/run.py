@@ -97,6 +97,7 @@ PARTS = (
     Part("tables_by_rattle", lambda given: ["tests/process/tables.py", "--", str(by_rattle(given))], file=by_rattle, install="rt ci builds it"),
     Part("error_numbers", lambda given: ["tests/process/error_numbers.py"]),
     Part("architecture", lambda given: ["tests/process/architecture.py"]),
+    Part("trusted", lambda given: ["tests/process/trusted.py"]),
     Part("documents", lambda given: given.of("documents", *given.longer()), ("bash",)),
     Part("python_package", lambda given: given.of("python_package", *given.longer())),
     Part("java_recorder", lambda given: given.of("java_recorder"), ("java", "javac")),
