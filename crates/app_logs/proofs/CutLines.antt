@@ -1,5 +1,5 @@
 -- Lines on cuts of a log, as the log grows and one cut more is judged.
-use Rattle.std.proofs.Common.{◌≡◌, ◌≤◌, ◌*◌, ℕ, zero, suc, List, [], ◌∷◌, ◌++◌, length, take, refl, sym, ap, subst, ◌∙◌, append_assoc, append-nil, arith}
+use Rattle.std.proofs.Common.{◌≡◌, ◌≤◌, ◌*◌, ℕ, zero, suc, List, [], ◌∷◌, ◌++◌, length, take, inl, inr, refl, sym, ap, subst, ◌∙◌, append_assoc, append-nil, arith}
 use Rattle.std.proofs.lemmas.List.{take-append-le, take_all}
 use Rattle.app_command_line.specs.declared.expected.Expected.{Expected}
 use Rattle.json_lines.specs.declared.outcome.Outcome.{Outcome}
@@ -37,7 +37,7 @@ lines-kept : (expected : Expected) (es more : List Event) (ns text : List ℕ) (
 unfolding AreCutLines
 lines-kept expected es more [] text outcome within are = are
 lines-kept expected es more (n ∷ ns) text outcome within are =
-    let (report, others, later, on, rest, is, comes) = are in (
+    let (report, others, later, on, rest, is, comes, last) = are in (
       report,
       others,
       later,
@@ -45,6 +45,7 @@ lines-kept expected es more (n ∷ ns) text outcome within are =
       lines-kept expected es more ns others later within.1 rest,
       is,
       comes,
+      last,
     )
 
 pub multiples-kept : (expected : Expected) (es more : List Event) (every k : ℕ) (text : List ℕ) (outcome : Outcome) → length es ≡ every * k
@@ -73,10 +74,18 @@ pub lines-then : (expected : Expected) (es : List Event) (ns : List ℕ) (text :
     → AreCutLines expected es ns text Met → IsReportOn (take n es) report
     → AreCutLines expected es (ns ++ (n ∷ [])) (text ++ cut_line n report) (outcome_for expected report)
 unfolding AreCutLines
-lines-then expected es [] text n report are on =
-    (report, [], Met, on, (refl, refl), ap (λ t. t ++ cut_line n report) are.0 ∙ sym (append-nil (cut_line n report)), sym (worse-met (outcome_for expected report)))
+lines-then expected es [] text n report are on = (
+  report,
+  [],
+  Met,
+  on,
+  (refl, refl),
+  ap (λ t. t ++ cut_line n report) are.0 ∙ sym (append-nil (cut_line n report)),
+  sym (worse-met (outcome_for expected report)),
+  inl refl,
+)
 lines-then expected es (m ∷ ns) text n report are on =
-    let (first, others, later, first_on, rest, is, comes) = are in
+    let (first, others, later, first_on, rest, is, comes, last) = are in
     let none : later ≡ Met = second-met (outcome_for expected first) later comes in
     let met : outcome_for expected first ≡ Met = first-met (outcome_for expected first) later comes in (
       first,
@@ -86,6 +95,7 @@ lines-then expected es (m ∷ ns) text n report are on =
       lines-then expected es ns others n report (subst (λ (o : Outcome). AreCutLines expected es ns others o) none rest) on,
       ap (λ t. t ++ cut_line n report) is ∙ append_assoc (cut_line m first) others (cut_line n report),
       sym (ap (λ o. worse o (outcome_for expected report)) met),
+      inr met,
     )
 
 -- no line yet

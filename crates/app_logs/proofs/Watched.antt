@@ -11,16 +11,20 @@ use Rattle.json_lines.specs.declared.outcome.Outcome.TheVariants.{Met}
 use Rattle.log_events.specs.declared.event.Event.{Event}
 use Rattle.log_reader.specs.Logs.{Follow, IsLogOf, Log, ended_lines, no_log}
 use Rattle.log_reader.specs.ReadSteps.{ReadsAll, ReadsMore}
-use Rattle.log_reader.specs.Readings.{Extends, HasRead, Reading}
+use Rattle.log_reader.specs.Readings.{Extends, FaultsAt, HasRead, Reading}
+use Rattle.log_reader.specs.declared.log_fault.LogFault.{LogFault}
+use Rattle.log_reader.specs.declared.log_fault.LogFault.TheVariants.{Refused, Memory, Read}
 use Rattle.app_logs.specs.declared.following.Followed.{Followed}
 use Rattle.app_logs.specs.declared.late_writes.LateWrite.{LateWrite}
 use Rattle.app_logs.specs.declared.turn.Turn.{Turn}
 use Rattle.app_logs.specs.declared.turn.Turn.TheVariants.{On, Stopped, Ended}
-use Rattle.app_logs.specs.LogAnswers.{IsLogOfFront, WatchesLog, WritesCutsUpTo, WritesFirstCuts}
+use Rattle.app_logs.specs.Failure.{error_of}
+use Rattle.app_logs.specs.LogAnswers.{IsLogOfFront, RefusesAfterCuts, RefusesLate, WatchesLog, WritesCutsUpTo, WritesFirstCuts}
 use Rattle.app_engine.specs.Expecting.{outcome_for}
 use Rattle.app_logs.specs.Reports.{AreCuts, AreCutLines, cut_line, multiples}
 use Rattle.app_logs.specs.Steps.Watching.{GoesOnBy, HasWatched, IsTurn, WritesCut, WritesLast}
 use Rattle.app_logs.proofs.CutLines.{lines-all, lines-none, multiples-kept, multiples-then}
+use Rattle.app_logs.proofs.Faults.{later-refusal}
 
 -- the lines that were read are the first ones of what the source had
 front-log : (first after : Option (List ℕ)) (text : List ℕ) (reading : Reading) → Consumes first after text → HasRead text reading
@@ -229,6 +233,32 @@ module _ (every : ℕ) (expected : Expected) (first written : Option (List ℕ))
     lines = watched.lines;
     written = watched.written;
   }
+
+  -- a line is refused before the next cut
+  refused-next : (count wanted : ℕ) (es before : List Event) → length es ≡ every * count → wanted ≡ length es + every → length before < wanted
+      → length before < every * suc count
+  refused-next count wanted es before so_far is below = let next : every * suc count ≡ every * count + every = omega arith in omega arith
+
+  pub refuses-late : (source_after writer_after : Option (List ℕ)) (old : Reading) (count judged wanted : ℕ) (fault : LogFault)
+      → HasWatched every expected first source_after written writer_after old count → FaultsAt wanted source_after old fault
+      → judged ≡ length old.log.events → wanted ≡ judged + every → RefusesLate every expected first written writer_after (error_of fault)
+  refuses-late source_after writer_after old count judged wanted (Refused refusal) watched faults so_far is =
+      later-refusal (λ bytes. RefusesAfterCuts every expected bytes written writer_after refusal) wanted first source_after watched.text old refusal
+      watched.consumed watched.read faults
+      (λ bytes (refused, extends, below). record {
+        refused = refused;
+        count = count;
+        text = watched.said;
+        judged =
+            extends-up every count old.log.events extends.events.0 refused.before.events watched.events extends.events.1;
+        next = refused-next count wanted old.log.events refused.before.events watched.events (is ∙ ap (λ n. n + every) so_far) below;
+        lines =
+            subst (λ (es : List Event). AreCutLines expected es (multiples every count) watched.said Met) (sym extends.events.1)
+            (multiples-kept expected old.log.events extends.events.0 every count watched.said Met watched.events watched.lines);
+        written = watched.written;
+      })
+  refuses-late source_after writer_after old count judged wanted Memory watched faults so_far is = tt
+  refuses-late source_after writer_after old count judged wanted Read watched faults so_far is = tt
 
   -- nothing was read yet, and nothing was written
   pub no-cuts : WritesFirstCuts every expected first written written

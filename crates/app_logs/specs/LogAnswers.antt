@@ -1,5 +1,5 @@
 -- What is answered to a log, and when it has no answer.
-use Rattle.std.specs.Prelude.{◌≡◌, ◌≢◌, ◌⊎◌, ⊤, ◌*◌, ℕ, List, ◌++◌, false, Option, None, Some, IfSome, codes, length}
+use Rattle.std.specs.Prelude.{◌≡◌, ◌≢◌, ◌⊎◌, ◌≤◌, ◌<◌, ⊤, ◌*◌, ℕ, suc, List, ◌++◌, false, Option, None, Some, IfSome, codes, length}
 use Rattle.std.specs.Io.KnownBytes.{Appends, IsAtEnd}
 use Rattle.serde_json.specs.Written.{compact_text}
 use Rattle.app_command_line.specs.declared.expected.Expected.{Expected}
@@ -15,6 +15,7 @@ use Rattle.app_engine.specs.Expecting.{outcome_for}
 use Rattle.app_explanations.specs.ExplanationTexts.{IsExplainedAs}
 use Rattle.app_explanations.specs.ListTexts.{IsListOf}
 use Rattle.log_reader.specs.Logs.{BeginsBy, IsLogOf, IsRefusedLog, Log}
+use Rattle.log_reader.specs.declared.refusal.Refusal.{Refusal}
 use Rattle.app_logs.specs.declared.failure.LogError.{LogError}
 use Rattle.app_logs.specs.declared.failure.LogError.TheVariants.{Refused}
 use Rattle.app_logs.specs.declared.following.Followed.{Followed}
@@ -83,6 +84,22 @@ pub record WritesFirstCuts (every : ℕ) (expected : Expected) (reader writer_be
   pub events : length log.events ≡ every * count
   pub lines : AreCutLines expected log.events (multiples every count) text Met
   pub written : Appends writer_before writer_after text
+
+-- a line was refused, and before it a line was written on each cut of the log so far, each as expected
+pub record RefusesAfterCuts (every : ℕ) (expected : Expected) (bytes : List ℕ) (writer_before writer_after : Option (List ℕ)) (refusal : Refusal) : Type 0 where
+  pub refused : IsRefusedLog bytes refusal
+  pub count : ℕ
+  pub text : List ℕ
+  pub judged : every * count ≤ length refused.before.events
+  pub next : length refused.before.events < every * suc count
+  pub lines : AreCutLines expected refused.before.events (multiples every count) text Met
+  pub written : Appends writer_before writer_after text
+
+-- the same of an error, if it is a refusal and the reader tells its bytes
+abbrev pub RefusesLate : ℕ → Expected → Option (List ℕ) → Option (List ℕ) → Option (List ℕ) → LogError → Type 0
+RefusesLate every expected reader writer_before writer_after (Refused refusal) =
+    IfSome reader (λ bytes. RefusesAfterCuts every expected bytes writer_before writer_after refusal)
+RefusesLate every expected reader writer_before writer_after _ = ⊤
 
 -- after how many events a log is judged again, where that was ordered
 abbrev pub every_in : LogOrder → Option ℕ

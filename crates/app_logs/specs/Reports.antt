@@ -30,12 +30,14 @@ pub record IsReportOn (events : List Event) (report : Findings) : Type 0 where
 abbrev pub cut_line : ℕ → Findings → List ℕ
 cut_line n report = decimal n ++ (codes " " ++ ended (joined_for report))
 
--- the text has a line on the first events for each of these numbers of them, in order, and this comes of all their reports
+-- the text has a line on the first events for each of these numbers of them, in order; of each report but the last what was expected comes, and this comes
+-- of all
 unfoldable pub AreCutLines : Expected → List Event → List ℕ → List ℕ → Outcome → Type 0
 AreCutLines expected events [] text outcome = (text ≡ []) × (outcome ≡ Met)
 AreCutLines expected events (n ∷ ns) text outcome =
     (report : Findings) × (others : List ℕ) × (more : Outcome) × IsReportOn (take n events) report
     × AreCutLines expected events ns others more × (text ≡ cut_line n report ++ others) × (outcome ≡ worse (outcome_for expected report) more)
+    × ((ns ≡ []) ⊎ (outcome_for expected report ≡ Met))
 
 -- the first multiples of a number
 unfoldable pub multiples : ℕ → ℕ → List ℕ

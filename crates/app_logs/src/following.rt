@@ -1,7 +1,7 @@
 //! Carrying out an order on a log.
 
 ghost use Rattle.std.specs.Prelude.{◌≡◌, ◌≢◌, ℕ, None, Some, IfErr, IfOk};
-ghost use Rattle.app_logs.specs.LogAnswers.{FollowsLog, IsLogError, WritesFirstCuts, every_in, expected_in};
+ghost use Rattle.app_logs.specs.LogAnswers.{FollowsLog, IsLogError, RefusesLate, WritesFirstCuts, every_in, expected_in};
 
 use crate::answering::answer_log;
 use crate::failure::LogError;
@@ -43,7 +43,7 @@ pub enum Rest {
 ///
 /// Fails with the first line that is refused, for want of memory, and where the source or the writer fails; also with `Memory` if
 /// `every` is 0, which no command line gives. After every error except a write fault it has written nothing, or with `every` the lines
-/// on some first cuts, each as expected. Of a line that is refused it appends what `error_lines` says of it besides its reason.
+/// on some first cuts, each as expected; after a refusal those on all cuts that come before the line. Of a line that is refused it appends what `error_lines` says of it besides its reason.
 /// O(n (k + log n)) for a history of n operations in k sessions, for each cut, and the cost of
 /// reading. Tests, not proofs, cover which late write it names.
 pub fn follow_log<P: Threads + Wait + Sync + AllocGlobal, R: Source, W: Write>(
@@ -60,6 +60,8 @@ pub fn follow_log<P: Threads + Wait + Sync + AllocGlobal, R: Source, W: Write>(
     ensures unwritten { every_in order.now ≡ None → IfErr result (λ e. e ≢ LogError.WriteFault → writer.new ≡ writer.old) }
     ensures first_cuts { (every : ℕ) → every_in order.now ≡ Some every → IfErr result (λ e. e ≢ LogError.WriteFault
         → WritesFirstCuts every (expected_in order.now) (R.remaining source.old) (W.contents writer.old) (W.contents writer.new)) }
+    ensures refused { (every : ℕ) → every_in order.now ≡ Some every → IfErr result
+        (RefusesLate every (expected_in order.now) (R.remaining source.old) (W.contents writer.old) (W.contents writer.new)) }
 {
     match order {
         LogOrder::Judge(

@@ -2,7 +2,7 @@
 
 ghost use Rattle.std.specs.Prelude.{◌≡◌, ◌≢◌, ◌⊎◌, ◌*◌, ◌+◌, ◌<◌, ◌≤◌, ℕ, List, [], Option, IfErr, IfOk, IfSome, None, false};
 ghost use Rattle.log_reader.specs.Readings.{HasRead, Reading};
-ghost use Rattle.app_logs.specs.LogAnswers.{IsLogError, WatchesLog, WritesFirstCuts};
+ghost use Rattle.app_logs.specs.LogAnswers.{IsLogError, RefusesLate, WatchesLog, WritesFirstCuts};
 ghost use Rattle.app_logs.specs.Steps.Watching.{HasWatched, IsTurn, WritesLast};
 
 use crate::failure::LogError;
@@ -42,6 +42,8 @@ pub(crate) fn watch_log<K: SessionWork, R: Source, W: Write>(
     ensures watched { IfOk result (WatchesLog watch.now.every watch.now.expected (R.remaining source.old) (R.remaining source.new)
         (W.contents writer.old) (W.contents writer.new)) }
     ensures error { IfErr result (IsLogError (R.remaining source.old)) }
+    ensures refused { IfErr result (RefusesLate watch.now.every watch.now.expected (R.remaining source.old)
+        (W.contents writer.old) (W.contents writer.new)) }
     ensures first_cuts { IfErr result (λ e. e ≢ LogError.WriteFault → WritesFirstCuts watch.now.every watch.now.expected
         (R.remaining source.old) (W.contents writer.old) (W.contents writer.new)) }
 {
@@ -71,6 +73,8 @@ fn watch_from<K: SessionWork, R: Source, W: Write>(
     ensures watched { IfOk result (WatchesLog watch.now.every watch.now.expected (R.remaining source.old) (R.remaining source.new)
         (W.contents writer.old) (W.contents writer.new)) }
     ensures error { IfErr result (IsLogError (R.remaining source.old)) }
+    ensures refused { IfErr result (RefusesLate watch.now.every watch.now.expected (R.remaining source.old)
+        (W.contents writer.old) (W.contents writer.new)) }
     ensures first_cuts { IfErr result (λ e. e ≢ LogError.WriteFault → WritesFirstCuts watch.now.every watch.now.expected
         (R.remaining source.old) (W.contents writer.old) (W.contents writer.new)) }
 {
@@ -123,6 +127,9 @@ impl<K: SessionWork> Watch<'_, K> {
         ensures error { (first written : Option (List ℕ)) (count : ℕ)
             → HasWatched self.now.every self.now.expected first (R.remaining source.old) written (W.contents writer.old) reader.old count
             → IfErr result (IsLogError first) }
+        ensures refused { (first written : Option (List ℕ)) (count : ℕ)
+            → HasWatched self.now.every self.now.expected first (R.remaining source.old) written (W.contents writer.old) reader.old count
+            → IfErr result (RefusesLate self.now.every self.now.expected first written (W.contents writer.new)) }
         ensures first_cuts { (first written : Option (List ℕ)) (count : ℕ)
             → HasWatched self.now.every self.now.expected first (R.remaining source.old) written (W.contents writer.old) reader.old count
             → IfErr result (λ e. e ≢ LogError.WriteFault

@@ -8,7 +8,7 @@ use Rattle.std.proofs.lemmas.List.Elements.{All-cons, All-head, All-nil, All-tai
 use Rattle.json_lines.specs.LineReaders.{BeginsLong}
 use Rattle.log_reader.specs.BookSteps.{IsLineFault, IsRestFault}
 use Rattle.log_reader.specs.Logs.{BeginsBy, EndsBy, EndsLine, IsFree, IsLogOf, IsRefused, IsRefusedLog, Log, Takes, no_log}
-use Rattle.log_reader.specs.Readings.{FaultsAt, FaultsFor, HasRead, Reading}
+use Rattle.log_reader.specs.Readings.{Extends, FaultsAt, FaultsFor, HasRead, Reading}
 use Rattle.log_reader.specs.ReadSteps.{Reads, ReadsAll, ReadsLine, ReadsMore}
 use Rattle.log_reader.specs.declared.limits.TheConstants.{MAX_LINE_BYTES}
 use Rattle.log_reader.specs.declared.log_fault.LogFault.{LogFault}
@@ -17,6 +17,7 @@ use Rattle.log_reader.specs.declared.progress.Progress.{Progress}
 use Rattle.log_reader.specs.declared.progress.Progress.TheVariants.{More, End}
 use Rattle.log_reader.specs.declared.refusal.Reason.TheVariants.{NotJson, TooLong}
 use Rattle.log_reader.specs.declared.refusal.Refusal.{Refusal}
+use Rattle.log_reader.proofs.BookLaws.{extends-more, extends-same}
 use Rattle.log_reader.proofs.LogSteps.{begins-more, begins-nothing, begins-push}
 
 abbrev pub reading : Log → List ℕ → ℕ → Reading
@@ -43,6 +44,31 @@ pub some_always : (P : List ℕ → Type 0) (known : Option (List ℕ)) → ((by
 some_always P None always = tt
 some_always P (Some bytes) always = always bytes
 
+some_by : (P Q : List ℕ → Type 0) (known : Option (List ℕ)) → ((bytes : List ℕ) → P bytes → Q bytes) → IfSome known P → IfSome known Q
+some_by P Q None step first = tt
+some_by P Q (Some bytes) step first = step bytes first
+
+-- ---- faults
+
+-- a text is refused at the line after those that have this log
+abbrev pub RefusedAfter : Log → List ℕ → Refusal → Type 0
+RefusedAfter log text refusal = (refused : IsRefusedLog text refusal) × (refused.before ≡ log)
+
+faults_after : (log : Log) (text : List ℕ) (refusal : Refusal) → RefusedAfter log text refusal → FaultsFor (length log.events + 1) log text (Refused refusal)
+faults_after log text refusal (refused, same) =
+    let events : length refused.before.events ≡ length log.events = ap (λ (l : Log). length l.events) same in (
+      refused,
+      subst (λ (l : Log). Extends log l) (sym same) (extends-same log),
+      omega arith,
+    )
+
+faults_earlier : (fewer most : ℕ) (old mid : Log) (text : List ℕ) (fault : LogFault) → fewer ≤ most → Extends old mid → FaultsFor fewer mid text fault
+    → FaultsFor most old text fault
+faults_earlier fewer most old mid text (Refused refusal) few extends (refused, grows, below) =
+    (refused, extends-more old mid refused.before extends grows, omega arith)
+faults_earlier fewer most old mid text Memory few extends fault = tt
+faults_earlier fewer most old mid text Read few extends fault = tt
+
 -- ---- one line
 
 module _ (text taken : List ℕ) (log : Log) (held : List ℕ) (count : ℕ) (has : HasRead text (reading log held count)) where
@@ -64,20 +90,23 @@ module _ (text taken : List ℕ) (log : Log) (held : List ℕ) (count : ℕ) (ha
   number_is refusal is = omega (arith, is, has.count)
 
   pub line_refused : (line rest more : List ℕ) (refusal : Refusal) → held ++ taken ≡ line ++ 10 ∷ rest → IsFree line → refusal.line ≡ count + 1
-      → IsRefused log line refusal.reason → IsRefusedLog ((text ++ taken) ++ more) refusal
-  line_refused line rest more refusal is free number refused = record {
-    lines = has.lines;
-    line = line;
-    rest = 10 ∷ (rest ++ more);
-    before = log;
-    begins =
-        subst (λ (l : List ℕ). BeginsBy ((text ++ taken) ++ more) has.lines log l) (ap (λ l. l ++ more) is ∙ append_assoc line (10 ∷ rest) more)
-        (begins-more (text ++ taken) has.lines log (held ++ taken) more taken_more);
-    line_free = free;
-    ends = refl;
-    refused = refused;
-    number = number_is refusal number;
-  }
+      → IsRefused log line refusal.reason → RefusedAfter log ((text ++ taken) ++ more) refusal
+  line_refused line rest more refusal is free number refused = (
+    record {
+      lines = has.lines;
+      line = line;
+      rest = 10 ∷ (rest ++ more);
+      before = log;
+      begins =
+          subst (λ (l : List ℕ). BeginsBy ((text ++ taken) ++ more) has.lines log l) (ap (λ l. l ++ more) is ∙ append_assoc line (10 ∷ rest) more)
+          (begins-more (text ++ taken) has.lines log (held ++ taken) more taken_more);
+      line_free = free;
+      ends = refl;
+      refused = refused;
+      number = number_is refusal number;
+    },
+    refl,
+  )
 
   pub rest_read : (line : List ℕ) (torn : Bool) (after : Log) → held ++ taken ≡ line → IsFree line → EndsBy (count + 1) log line torn after → IsLogOf (text ++ taken) after torn
   rest_read line torn after is free ends = record {
@@ -90,18 +119,21 @@ module _ (text taken : List ℕ) (log : Log) (held : List ℕ) (count : ℕ) (ha
   }
 
   pub rest_refused : (line : List ℕ) (refusal : Refusal) → held ++ taken ≡ line → IsFree line → refusal.line ≡ count + 1 → refusal.reason ≢ NotJson
-      → IsRefused log line refusal.reason → IsRefusedLog (text ++ taken) refusal
-  rest_refused line refusal is free number other refused = record {
-    lines = has.lines;
-    line = line;
-    rest = [];
-    before = log;
-    begins = subst (λ (l : List ℕ). BeginsBy (text ++ taken) has.lines log l) (is ∙ sym (append-nil line)) taken_more;
-    line_free = free;
-    ends = other;
-    refused = refused;
-    number = number_is refusal number;
-  }
+      → IsRefused log line refusal.reason → RefusedAfter log (text ++ taken) refusal
+  rest_refused line refusal is free number other refused = (
+    record {
+      lines = has.lines;
+      line = line;
+      rest = [];
+      before = log;
+      begins = subst (λ (l : List ℕ). BeginsBy (text ++ taken) has.lines log l) (is ∙ sym (append-nil line)) taken_more;
+      line_free = free;
+      ends = other;
+      refused = refused;
+      number = number_is refusal number;
+    },
+    refl,
+  )
 
 -- ---- a line that is too long
 
@@ -149,59 +181,64 @@ first_long (suc n) (b ∷ bytes) enough free =
 
 module _ (text taken : List ℕ) (log : Log) (held : List ℕ) (count : ℕ) (has : HasRead text (reading log held count)) where
   long_by : (bytes more : List ℕ) (n : ℕ) (refusal : Refusal) → held ++ taken ≡ bytes → MAX_LINE_BYTES < n → FirstLine (bytes ++ more) n
-      → refusal ≡ record { reason = TooLong; line = count + 1 } → IsRefusedLog ((text ++ taken) ++ more) refusal
+      → refusal ≡ record { reason = TooLong; line = count + 1 } → RefusedAfter log ((text ++ taken) ++ more) refusal
   long_by bytes more n refusal is over first same =
       let begins = begins-more (text ++ taken) has.lines log (held ++ taken) more (taken_more text taken log held count has) in
       let split : (held ++ taken) ++ more ≡ first.line ++ first.rest = ap (λ l. l ++ more) is ∙ first.whole in
       let long = first.long in
-      subst (λ (r : Refusal). IsRefusedLog ((text ++ taken) ++ more) r) (sym same) (record {
-        lines = has.lines;
-        line = first.line;
-        rest = first.rest;
-        before = log;
-        begins = subst (λ (l : List ℕ). BeginsBy ((text ++ taken) ++ more) has.lines log l) split begins;
-        line_free = first.free;
-        ends = first.ends;
-        refused = omega arith;
-        number = omega (arith, has.count);
-      })
+      subst (λ (r : Refusal). RefusedAfter log ((text ++ taken) ++ more) r) (sym same) (
+        record {
+          lines = has.lines;
+          line = first.line;
+          rest = first.rest;
+          before = log;
+          begins = subst (λ (l : List ℕ). BeginsBy ((text ++ taken) ++ more) has.lines log l) split begins;
+          line_free = first.free;
+          ends = first.ends;
+          refused = omega arith;
+          number = omega (arith, has.count);
+        },
+        refl,
+      )
 
   pub long_refused : (bytes more : List ℕ) (refusal : Refusal) → held ++ taken ≡ bytes → BeginsLong MAX_LINE_BYTES bytes
-      → refusal ≡ record { reason = TooLong; line = count + 1 } → IsRefusedLog ((text ++ taken) ++ more) refusal
+      → refusal ≡ record { reason = TooLong; line = count + 1 } → RefusedAfter log ((text ++ taken) ++ more) refusal
   long_refused bytes more refusal is (n, over, enough, free) same =
       let still : IsFree (take n (bytes ++ more)) = subst IsFree (sym (take-append-le n bytes more enough)) free in
       let within : n ≤ length (bytes ++ more) = omega (arith, enough, length-append bytes more) in
       long_by bytes more n refusal is over (first_long n (bytes ++ more) within still) same
 
--- ---- faults
+-- ---- faults at a line
 
-faults_memory : (text : List ℕ) (known : Option (List ℕ)) → IfSome known (λ bytes. FaultsFor (text ++ bytes) Memory)
-faults_memory text known = some_always (λ bytes. FaultsFor (text ++ bytes) Memory) known (λ _. tt)
+faults_memory : (most : ℕ) (log : Log) (text : List ℕ) (known : Option (List ℕ)) → IfSome known (λ bytes. FaultsFor most log (text ++ bytes) Memory)
+faults_memory most log text known = some_always (λ bytes. FaultsFor most log (text ++ bytes) Memory) known (λ _. tt)
 
 module _ (before mid : Option (List ℕ)) (taken : List ℕ) (consumed : Consumes before mid taken) (log : Log) (held : List ℕ) (count : ℕ) where
   pub line_fault : (line rest : List ℕ) (fault : LogFault) → held ++ taken ≡ line ++ 10 ∷ rest → IsFree line → IsLineFault log line (count + 1) fault
-      → FaultsAt before (reading log held count) fault
+      → FaultsAt (length log.events + 1) before (reading log held count) fault
   line_fault line rest (Refused refusal) is free (number, refused) text has =
-      some_later (λ bytes. FaultsFor bytes (Refused refusal)) before mid text taken consumed
-      (some_always (λ bytes. FaultsFor ((text ++ taken) ++ bytes) (Refused refusal)) mid
-      (λ more. line_refused text taken log held count has line rest more refusal is free number refused))
-  line_fault line rest Memory is free fault text has = faults_memory text before
+      some_later (λ bytes. FaultsFor (length log.events + 1) log bytes (Refused refusal)) before mid text taken consumed
+      (some_always (λ bytes. FaultsFor (length log.events + 1) log ((text ++ taken) ++ bytes) (Refused refusal)) mid
+      (λ more. faults_after log ((text ++ taken) ++ more) refusal
+      (line_refused text taken log held count has line rest more refusal is free number refused)))
+  line_fault line rest Memory is free fault text has = faults_memory (length log.events + 1) log text before
   line_fault line rest Read is free fault text has = absurd fault
 
   pub long_fault : (bytes : List ℕ) (fault : LogFault) → held ++ taken ≡ bytes → BeginsLong MAX_LINE_BYTES bytes
-      → fault ≡ Refused (record { reason = TooLong; line = count + 1 }) → FaultsAt before (reading log held count) fault
+      → fault ≡ Refused (record { reason = TooLong; line = count + 1 }) → FaultsAt (length log.events + 1) before (reading log held count) fault
   long_fault bytes fault is long same =
-      subst (λ (f : LogFault). FaultsAt before (reading log held count) f) (sym same)
-      (λ text has. some_later (λ all. FaultsFor all (Refused (record { reason = TooLong; line = count + 1 }))) before mid text taken consumed
-      (some_always (λ more. FaultsFor ((text ++ taken) ++ more) (Refused (record { reason = TooLong; line = count + 1 }))) mid
-      (λ more. long_refused text taken log held count has bytes more _ is long refl)))
+      let refusal : Refusal = record { reason = TooLong; line = count + 1 } in
+      subst (λ (f : LogFault). FaultsAt (length log.events + 1) before (reading log held count) f) (sym same)
+      (λ text has. some_later (λ all. FaultsFor (length log.events + 1) log all (Refused refusal)) before mid text taken consumed
+      (some_always (λ more. FaultsFor (length log.events + 1) log ((text ++ taken) ++ more) (Refused refusal)) mid
+      (λ more. faults_after log ((text ++ taken) ++ more) refusal (long_refused text taken log held count has bytes more refusal is long refl))))
 
   pub rest_fault : (line : List ℕ) (fault : LogFault) → IsAtEnd mid → held ++ taken ≡ line → IsFree line → IsRestFault log line (count + 1) fault
-      → FaultsAt before (reading log held count) fault
+      → FaultsAt (length log.events + 1) before (reading log held count) fault
   rest_fault line (Refused refusal) end is free (number, other, refused) text has =
-      Consumes-whole before mid taken (λ bytes. FaultsFor (text ++ bytes) (Refused refusal)) consumed end
-      (rest_refused text taken log held count has line refusal is free number other refused)
-  rest_fault line Memory end is free fault text has = faults_memory text before
+      Consumes-whole before mid taken (λ bytes. FaultsFor (length log.events + 1) log (text ++ bytes) (Refused refusal)) consumed end
+      (faults_after log (text ++ taken) refusal (rest_refused text taken log held count has line refusal is free number other refused))
+  rest_fault line Memory end is free fault text has = faults_memory (length log.events + 1) log text before
   rest_fault line Read end is free fault text has = absurd fault
 
   -- ---- what was read
@@ -247,10 +284,13 @@ more_all a b c old mid new torn first last = record {
       some_later (λ bytes. IsLogOf bytes new.log torn) a b text step.0 step.1 (last.log (text ++ step.0) step.2);
 }
 
-pub more_fault : (a b : Option (List ℕ)) (old mid : Reading) (fault : LogFault) → ReadsMore a b old mid → FaultsAt b mid fault → FaultsAt a old fault
-more_fault a b old mid fault first last text has =
+pub more_fault : (fewer most : ℕ) (a b : Option (List ℕ)) (old mid : Reading) (fault : LogFault) → fewer ≤ most → Extends old.log mid.log → ReadsMore a b old mid
+    → FaultsAt fewer b mid fault → FaultsAt most a old fault
+more_fault fewer most a b old mid fault few extends first last text has =
     let step = first text has in
-    some_later (λ bytes. FaultsFor bytes fault) a b text step.0 step.1 (last (text ++ step.0) step.2)
+    some_later (λ bytes. FaultsFor most old.log bytes fault) a b text step.0 step.1
+    (some_by (λ bytes. FaultsFor fewer mid.log ((text ++ step.0) ++ bytes) fault) (λ bytes. FaultsFor most old.log ((text ++ step.0) ++ bytes) fault) b
+    (λ bytes at. faults_earlier fewer most old.log mid.log ((text ++ step.0) ++ bytes) fault few extends at) (last (text ++ step.0) step.2))
 
 pub line_reads : (a b : Option (List ℕ)) (old new : Reading) (p : Progress) → ReadsLine a b old new (Some p) → Reads a b old new p
 line_reads a b old new More line = absurd line

@@ -23,12 +23,6 @@ pub record HasRead (text : List ℕ) (reading : Reading) : Type 0 where
   pub begins : BeginsBy text lines reading.log reading.held
   pub count : reading.count ≡ length lines
 
--- why a text is not read to its end: it is refused, or memory runs out, or the reader fails
-abbrev pub FaultsFor : List ℕ → LogFault → Type 0
-FaultsFor text (Refused refusal) = IsRefusedLog text refusal
-FaultsFor text Memory = ⊤
-FaultsFor text Read = ⊤
-
 -- a list stays in front
 abbrev pub Grows : {X : Type 0} → List X → List X → Type 0
 Grows {X} old new = (more : List X) × (new ≡ old ++ more)
@@ -40,6 +34,14 @@ pub record Extends (old new : Log) : Type 0 where
   pub values : Grows old.values new.values
   pub events : Grows old.events new.events
   pub lines : Grows old.lines new.lines
+
+-- why a text whose first lines have a log is not read until it has so many events: a later line is refused, before which it has fewer; or memory runs
+-- out, or the reader fails
+abbrev pub FaultsFor : ℕ → Log → List ℕ → LogFault → Type 0
+FaultsFor most log text (Refused refusal) =
+    (refused : IsRefusedLog text refusal) × Extends log refused.before × (length refused.before.events < most)
+FaultsFor most log text Memory = ⊤
+FaultsFor most log text Read = ⊤
 
 -- each number of an event has a name
 module _ (log : Log) where
@@ -69,6 +71,6 @@ module _ (log : Log) where
   abbrev pub AreNamed : Type 0
   AreNamed = All IsNamed log.events
 
--- why a log is not read to its end, whose bytes were read and which the source had still
-abbrev pub FaultsAt : Option (List ℕ) → Reading → LogFault → Type 0
-FaultsAt source reading fault = (text : List ℕ) → HasRead text reading → IfSome source (λ bytes. FaultsFor (text ++ bytes) fault)
+-- why a log is not read on until it has so many events, whose bytes were read and which the source had still
+abbrev pub FaultsAt : ℕ → Option (List ℕ) → Reading → LogFault → Type 0
+FaultsAt most source reading fault = (text : List ℕ) → HasRead text reading → IfSome source (λ bytes. FaultsFor most reading.log (text ++ bytes) fault)

@@ -67,7 +67,7 @@ impl EventReader {
     // Reads the next line, or finds the end.
     fn read_line<R: Source>(&mut self, source: &mut R) -> Result<Option<Progress>, LogFault>
         ensures read { IfOk result (ReadsLine (R.remaining source.old) (R.remaining source.new) self.old self.new) }
-        ensures fault { IfErr result (FaultsAt (R.remaining source.old) self.old) }
+        ensures fault { IfErr result (FaultsAt (length self.old.log.events + 1) (R.remaining source.old) self.old) }
         ensures extends { Extends self.old.log self.new.log }
         ensures few { OnOk result (length self.new.log.events ≤ length self.old.log.events + 1) }
     {
@@ -101,12 +101,12 @@ impl EventReader {
     /// After [`Progress::More`] call it again with a greater number. Do not call it again after an end or a fault. It makes read calls only
     /// where it holds no whole line, and returns as soon as it has the events.
     ///
-    /// Refuses the first line that does not follow those before it. `Memory` where an allocation was refused, or where there
+    /// Refuses the first line that does not follow those before it; these have fewer events than were wanted. `Memory` where an allocation was refused, or where there
     /// are more events, names or lines than have numbers; `Read` where the source fails, or a line did not end within the read
     /// calls that are allowed for one line. O(n) for n bytes, on average.
     pub fn read<R: Source>(&mut self, source: &mut R, most: u32) -> Result<Progress, LogFault>
         ensures read { IfOk result (Reads (R.remaining source.old) (R.remaining source.new) self.old self.new) }
-        ensures fault { IfErr result (FaultsAt (R.remaining source.old) self.old) }
+        ensures fault { IfErr result (FaultsAt most (R.remaining source.old) self.old) }
         ensures extends { Extends self.old.log self.new.log }
         ensures enough { result ≡ Ok Progress.More → most ≤ length self.new.log.events }
         ensures few { OnOk result (length self.new.log.events ≤ max most (length self.old.log.events)) }

@@ -8,7 +8,7 @@ pub returns-in_err-torn-clause-error : goal.returns-in_err-torn-clause-error
 returns-in_err-torn-clause-error g c =
     let p = err_from_is_err_and c.from_residual.result c.from_residual.ensures.1 in
     rw (p.1, p.2)
-    (first-fault (g.R.Source.remaining c.args.source.now) c.args.reader.now c.in_err-torn.field-0.0 c.requires c.in_err-torn.ensures.fault)
+    (first-fault _ (g.R.Source.remaining c.args.source.now) c.args.reader.now c.in_err-torn.field-0.0 c.requires c.in_err-torn.ensures.fault)
 
 pub returns-in-End-clause-whole : goal.returns-in-End-clause-whole
 returns-in-End-clause-whole g c =

@@ -45,6 +45,12 @@ cuts-preserved g c =
           (c.in_ok-turn.ensures.turn first written c.cuts.invariant.0 c.cuts.invariant.1),
     )
 
+pub returns-in_err-turn-clause-refused : goal.returns-in_err-turn-clause-refused
+returns-in_err-turn-clause-refused g c =
+    let p = err_from_is_err_and c.from_residual.result c.from_residual.ensures.1 in
+    rw (p.1, p.2)
+    (c.in_err-turn.ensures.refused (g.R.Source.remaining c.args.source.now) (g.W.Write.contents c.args.writer.now) c.cuts.invariant.0 c.cuts.invariant.1)
+
 pub returns-in_err-turn-clause-first_cuts : goal.returns-in_err-turn-clause-first_cuts
 returns-in_err-turn-clause-first_cuts g c =
     let p = err_from_is_err_and c.from_residual.result c.from_residual.ensures.1 in

@@ -5,15 +5,23 @@ use Rattle.log_reader.specs.ReadSteps.{Reads}
 use Rattle.log_reader.specs.declared.progress.Progress.{Progress}
 use Rattle.app_logs.specs.LogAnswers.{WritesFirstCuts}
 use Rattle.app_logs.proofs.Faults.{later-fault}
-use Rattle.app_logs.proofs.Watched.{first-cuts, turned-end, turned-more}
+use Rattle.app_logs.proofs.Watched.{first-cuts, refuses-late, turned-end, turned-more}
 use Rattle.app_logs.proofs.watching.Watch.turn.Goals as goal
 
 pub returns-in_err-read-clause-error : goal.returns-in_err-read-clause-error
 returns-in_err-read-clause-error g c = λ first written count watched.
     let p = err_from_is_err_and c.from_residual-in_err-read.result c.from_residual-in_err-read.ensures.1 in
     rw (p.1, p.2)
-    (later-fault first (g.R.Source.remaining c.args.source.now) watched.text c.args.reader.now c.in_err-read.field-0.0 watched.consumed watched.read
+    (later-fault c.in_ok-wanted.wanted first (g.R.Source.remaining c.args.source.now) watched.text c.args.reader.now c.in_err-read.field-0.0 watched.consumed watched.read
     c.in_err-read.ensures.fault)
+
+pub returns-in_err-read-clause-refused : goal.returns-in_err-read-clause-refused
+returns-in_err-read-clause-refused g c = λ first written count watched.
+    let p = err_from_is_err_and c.from_residual-in_err-read.result c.from_residual-in_err-read.ensures.1 in
+    rw (p.1, p.2)
+    (refuses-late c.args.self.now.every c.args.self.now.expected first written (g.R.Source.remaining c.args.source.now)
+    (g.W.Write.contents c.args.writer.now) c.args.reader.now count c.events-judged.result c.in_ok-wanted.wanted c.in_err-read.field-0.0 watched
+    c.in_err-read.ensures.fault (c.events-judged.ensures.count ∙ ap length c.log.ensures) c.in_ok-wanted.ensures.next)
 
 pub returns-in_ok-outcome-in-More-clause-turn : goal.returns-in_ok-outcome-in-More-clause-turn
 returns-in_ok-outcome-in-More-clause-turn g c = λ first written count watched.

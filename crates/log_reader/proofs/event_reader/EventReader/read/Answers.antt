@@ -17,8 +17,8 @@ pub returns-in_err-progress-clause-fault : goal.returns-in_err-progress-clause-f
 returns-in_err-progress-clause-fault g c =
     let p = err_from_is_err_and c.from_residual.result c.from_residual.ensures.1 in
     rw (p.1, p.2)
-    (more_fault (g.R.Source.remaining c.args.source.now) (g.R.Source.remaining c.loop.source) c.args.self.now c.loop.self c.in_err-progress.field-0.0
-    c.loop.invariant.more c.in_err-progress.ensures.fault)
+    (more_fault (length c.loop.self.log.events + 1) c.args.most (g.R.Source.remaining c.args.source.now) (g.R.Source.remaining c.loop.source) c.args.self.now
+    c.loop.self c.in_err-progress.field-0.0 (grind arith) c.loop.invariant.extends c.loop.invariant.more c.in_err-progress.ensures.fault)
 
 pub returns-in-Some-clause-read : goal.returns-in-Some-clause-read
 returns-in-Some-clause-read g c =

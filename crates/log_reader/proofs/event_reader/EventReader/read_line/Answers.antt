@@ -18,7 +18,7 @@ returns-in_err-take_line-in-Line-clause-fault g c =
     let fault = subst (λ (l : List ℕ). IsLineFault c.self.inside.book l (c.self.inside.count + 1) c.in_err-take_line-in-Line.field-0.0) c.line.ensures c.in_err-take_line-in-Line.ensures.fault in
     let at = line_fault (g.R.Source.remaining c.args.source.now) (g.R.Source.remaining c.next.new.reader) finds.taken finds.consumed c.self.inside.book c.self.inside.lines.held
     c.self.inside.count c.next.new.self.line c.next.new.self.held c.in_err-take_line-in-Line.field-0.0 first.0 first.1 fault in
-    rw (p.1, p.2) (subst (λ (r : Reading). FaultsAt (g.R.Source.remaining c.args.source.now) r c.in_err-take_line-in-Line.field-0.0) c.self.view_is at)
+    rw (p.1, p.2) (subst (λ (r : Reading). FaultsAt (length r.log.events + 1) (g.R.Source.remaining c.args.source.now) r c.in_err-take_line-in-Line.field-0.0) c.self.view_is at)
 
 pub returns-in_err-torn-in-Rest-clause-fault : goal.returns-in_err-torn-in-Rest-clause-fault
 returns-in_err-torn-in-Rest-clause-fault g c =
@@ -29,7 +29,7 @@ returns-in_err-torn-in-Rest-clause-fault g c =
     let fault = subst (λ (l : List ℕ). IsRestFault c.self.inside.book l (c.self.inside.count + 1) c.in_err-torn-in-Rest.field-0.0) c.line-in-Rest.ensures c.in_err-torn-in-Rest.ensures.fault in
     let at = rest_fault (g.R.Source.remaining c.args.source.now) (g.R.Source.remaining c.next.new.reader) finds.taken finds.consumed c.self.inside.book c.self.inside.lines.held
     c.self.inside.count c.next.new.self.line c.in_err-torn-in-Rest.field-0.0 over first.0 first.1 fault in
-    rw (p.1, p.2) (subst (λ (r : Reading). FaultsAt (g.R.Source.remaining c.args.source.now) r c.in_err-torn-in-Rest.field-0.0) c.self.view_is at)
+    rw (p.1, p.2) (subst (λ (r : Reading). FaultsAt (length r.log.events + 1) (g.R.Source.remaining c.args.source.now) r c.in_err-torn-in-Rest.field-0.0) c.self.view_is at)
 
 pub returns-in_ok-take_line-in-Line-clause-read : goal.returns-in_ok-take_line-in-Line-clause-read
 returns-in_ok-take_line-in-Line-clause-read g c =
@@ -60,7 +60,7 @@ returns-in-TooLong-clause-fault g c =
     let long = subst (λ (m : ℕ). BeginsLong m bytes) (finds.most ∙ c.self.invariant) first.2 in
     let at = long_fault (g.R.Source.remaining c.args.source.now) (g.R.Source.remaining c.next.new.reader) finds.taken finds.consumed c.self.inside.book c.self.inside.lines.held
     c.self.inside.count bytes c.refused.result refl long c.refused.ensures in
-    subst (λ (r : Reading). FaultsAt (g.R.Source.remaining c.args.source.now) r c.refused.result) c.self.view_is at
+    subst (λ (r : Reading). FaultsAt (length r.log.events + 1) (g.R.Source.remaining c.args.source.now) r c.refused.result) c.self.view_is at
 
 pub returns-in_ok-take_line-in-Line-clause-few : goal.returns-in_ok-take_line-in-Line-clause-few
 returns-in_ok-take_line-in-Line-clause-few g c =
