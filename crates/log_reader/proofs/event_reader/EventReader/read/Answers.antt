@@ -1,4 +1,4 @@
-use Rattle.std.proofs.Common.{Option, arith, subst}
+use Rattle.std.proofs.Common.{◌+◌, Option, arith, length, subst}
 use Rattle.std.proofs.lemmas.Result.{err_from_is_err_and}
 use Rattle.log_reader.specs.ReadSteps.{ReadsLine}
 use Rattle.log_reader.specs.declared.progress.Progress.{Progress}
