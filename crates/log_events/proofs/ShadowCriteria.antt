@@ -1,6 +1,6 @@
 -- What a history meets, one meets whose operations are operations of it, but for some whose return is unknown.
 use Rattle.std.proofs.Common.{◌≡◌, ℕ, zero, suc, ◌<◌, true, false, List, [], ◌∷◌, ◌++◌, length, take, refl, ap, sym, subst, ◌∙◌, inl, inr, ⊎_elim, arith, eq-or-lt_of_le}
-use Rattle.std.specs.Prelude.{◌≢◌, ◌⊎◌, IsTrue, Option, Some, filter_map}
+use Rattle.std.specs.Prelude.{◌≢◌, IsTrue, Option, Some, filter_map}
 use Rattle.std.proofs.lemmas.Bool.{cases_Bool}
 use Rattle.std.proofs.lemmas.List.{take-append-le}
 use Rattle.std.proofs.lemmas.Option.{same_Some, slice_get_within}
