@@ -65,7 +65,7 @@ PROMISES = (
     Promise(
         "log",
         "`judge` of a log: its lines",
-        (f"{FOLLOW}/followed/unwritten/first_cuts", "app_logs::laws distinct_values_are_decided"),
+        (f"{FOLLOW}/followed/unwritten/first_cuts/refused", "app_logs::laws distinct_values_are_decided"),
         LOGGED,
     ),
     Promise("log-refused", "`judge` of a log: what is refused", (f"{FOLLOW}/error", "log_reader::laws texts_have_one_log"), LOGGED),

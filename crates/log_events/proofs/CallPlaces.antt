@@ -149,7 +149,7 @@ ended-to es c call i j ending end =
     })
 
 -- calls are in the order of their places, so two calls at one place are one
-calls-rise : (b : ℕ) (es : List Event) (m n : ℕ) (first second : Call) → m < n → slice_get (calls_from b es) m ≡ Some first
+pub calls-rise : (b : ℕ) (es : List Event) (m n : ℕ) (first second : Call) → m < n → slice_get (calls_from b es) m ≡ Some first
     → slice_get (calls_from b es) n ≡ Some second → first.place < second.place
 calls-rise b [] m n first second below at there = absurd cc
 calls-rise b (Starts x v ∷ es) m n first second below at there = calls-rise (b + 1) es m n first second below at there

@@ -26,7 +26,7 @@ module _ (es : List Event) (n : ℕ) where
   cut = take n es
 
   -- what a read got in the cut it got in the log
-  returned-more : (x v : ℕ) → is_returned cut x v ≡ true → is_returned es x v ≡ true
+  pub returned-more : (x v : ℕ) → is_returned cut x v ≡ true → is_returned es x v ≡ true
   returned-more x v returned =
       let r = list_any-from (λ (a : Call). gets x v a.call a.ending) (run_calls cut) returned in
       let a = r.1 in
@@ -47,7 +47,7 @@ module _ (es : List Event) (n : ℕ) where
       none (ReadOf y) wrong = absurd cc
       none (DeleteOf y) wrong = absurd cc
 
-  ended-alike : (place client : ℕ) (call : ClientCall) (ending : Ending)
+  pub ended-alike : (place client : ℕ) (call : ClientCall) (ending : Ending)
       → IsAlike cut es (record { client = client; place = place; call = call; ending = Some ending })
   ended-alike place client (WriteTo x v) Answered = inl refl
   ended-alike place client (WriteTo x v) (Got w) = inl refl

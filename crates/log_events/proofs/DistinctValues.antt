@@ -32,12 +32,12 @@ write-same x y v u r s same =
 
 -- a write in a client's session is that of a write that was not lost, the mark of one that was, or that of a delete
 module _ (es : List Event) (place x u : ℕ) where
-  abbrev IsOfWrite : ClientCall → Option Ending → Type 0
+  abbrev pub IsOfWrite : ClientCall → Option Ending → Type 0
   IsOfWrite call ending =
       ((y v : ℕ) × (call ≡ WriteTo y v) × (ending ≢ Some Failed) × (ending ≢ Some Lost) × (x ≡ key y) × (u ≡ value v))
       ⊎ (((x ≡ mark place) × (u ≡ 1)) ⊎ ((y : ℕ) × (x ≡ key y) × (u ≡ deleted place)))
 
-  write-call : (call : ClientCall) (ending : Option Ending) (r : Option RegisterRet) → operation es place call ending ≡ Some (write x u r)
+  pub write-call : (call : ClientCall) (ending : Option Ending) (r : Option RegisterRet) → operation es place call ending ≡ Some (write x u r)
       → IsOfWrite call ending
   write-call (WriteTo y v) None r is =
       let same = write-same _ _ _ _ _ _ (same_Some _ _ is) in
@@ -72,7 +72,7 @@ module _ (es : List Event) (place x u : ℕ) where
   write-call (DeleteOf y) (Some Lost) r is = absurd cc
 
 -- the write of a fork is its second operation
-fork-write : (m y v x u i : ℕ) (r : Option RegisterRet) → slice_get (read m (Some (Value 1)) ∷ write y v None ∷ []) i ≡ Some (write x u r)
+pub fork-write : (m y v x u i : ℕ) (r : Option RegisterRet) → slice_get (read m (Some (Value 1)) ∷ write y v None ∷ []) i ≡ Some (write x u r)
     → (i ≡ 1) × (x ≡ y) × (u ≡ v)
 fork-write m y v x u zero r at = absurd (write-not_read _ _ _ _ _ (sym (same_Some _ _ at)))
 fork-write m y v x u (suc zero) r at = let same = write-same _ _ _ _ _ _ (same_Some _ _ at) in (refl, sym same.0, sym same.1)

@@ -42,3 +42,13 @@ pub mod PushedEvents
 pub mod Searching
 pub mod StartKeys
 pub mod Tallying
+pub mod GivenPlaces
+pub mod Shadows
+pub mod ShadowLists
+pub mod ShadowCriteria
+pub mod ShadowConvergence
+pub mod CallSlots
+pub mod CutImages
+pub mod CutShadows
+pub mod CutSources
+pub mod ClosedCuts

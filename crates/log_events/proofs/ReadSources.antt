@@ -59,7 +59,7 @@ module _ (es : List Event) where
           (op r.0 1, writes-of (op r.0 1) (key x) (value v) None r.1)
 
   -- a delete that does not fail names its key
-  delete-names : (a : Call) (x : ℕ) → IsRunCall es a → a.call ≡ DeleteOf x → a.ending ≢ Some Failed → is_deleted es x ≡ true
+  pub delete-names : (a : Call) (x : ℕ) → IsRunCall es a → a.call ≡ DeleteOf x → a.ending ≢ Some Failed → is_deleted es x ≡ true
   delete-names a x (k, at) is stays =
       list_any-to (λ (b : Call). deletes x b.call b.ending) (run_calls es) k a at
       (ap (λ (d : ClientCall). deletes x d a.ending) is ∙ named a.ending stays)

@@ -1,12 +1,12 @@
 -- Logs in which each read returns what was begun before, and the sessions of a cut: of the first events of a log.
-use Rattle.std.specs.Prelude.{◌≡◌, ◌⊎◌, ℕ, ◌<◌, ◌≤◌, List, ◌++◌, length, Some, None, slice_get}
+use Rattle.std.specs.Prelude.{◌≡◌, ◌⊎◌, ℕ, ◌<◌, ◌≤◌, IsTrue, List, ◌++◌, length, take, Some, None, slice_get}
 use Rattle.log_events.specs.declared.event.ClientCall.{ClientCall}
 use Rattle.log_events.specs.declared.event.ClientCall.TheVariants.{WriteTo, ReadOf, DeleteOf}
 use Rattle.log_events.specs.declared.event.Ending.TheVariants.{Got, GotNothing, Failed, Lost}
 use Rattle.log_events.specs.declared.event.Event.{Event}
 use Rattle.log_events.specs.declared.event.Event.TheVariants.{Starts, Begins, Ends}
 use Rattle.log_events.specs.Events.{IsAt, IsEnded, Call}
-use Rattle.log_events.specs.Histories.{Operation, operation, operations, client_session}
+use Rattle.log_events.specs.Histories.{Operation, is_deleted, operation, operations, client_session}
 
 -- before the place j a client began the call, and it does not fail
 abbrev pub IsBegunBefore : List Event → ℕ → ClientCall → Type 0
@@ -59,3 +59,16 @@ pub record EndsWell (es : List Event) : Type 0 where
 -- all starts are among the first n events
 abbrev pub HasStartsBefore : List Event → ℕ → Type 0
 HasStartsBefore es n = (k x v : ℕ) → IsAt es k (Starts x v) → k < n
+
+-- where a read got nothing of a key that some delete names, such a delete was begun before, and does not fail
+abbrev pub FindsNothingInOrder : List Event → Type 0
+FindsNothingInOrder es = (reader x i j : ℕ) → IsEnded es reader (ReadOf x) i j GotNothing → IsTrue (is_deleted es x)
+    → IsBegunBefore es j (DeleteOf x)
+
+-- the first n events of a log have what the reads that end among them rest on: where one got a value, each write of it that does not
+-- fail; and where one got nothing of a key that some delete of the log names, some delete of it
+pub record IsClosedCut (es : List Event) (n : ℕ) : Type 0 where
+  pub writes : (reader client x v i j k : ℕ) → IsEnded es reader (ReadOf x) i j (Got v) → j < n → IsAt es k (Begins client (WriteTo x v))
+      → ((m : ℕ) → ¬ IsEnded es client (WriteTo x v) k m Failed) → k < n
+  pub deletes : (reader x i j : ℕ) → IsEnded es reader (ReadOf x) i j GotNothing → j < n → IsTrue (is_deleted es x)
+      → IsTrue (is_deleted (take n es) x)

@@ -7,7 +7,7 @@ ghost use Rattle.order_memory.specs.SourceOrder.{LacksSource};
 ghost use Rattle.cert_check.specs.Criteria.{Meets};
 ghost use Rattle.log_events.specs.Events.{Call, IsAllowed};
 ghost use Rattle.log_events.specs.Histories.{history_of, Operation, read, write};
-ghost use Rattle.log_events.specs.Cuts.{BeginsSession, EndsWell, HasPlainEnds, HasStartsBefore, IsCutSession, ReturnsWhatWasBegun};
+ghost use Rattle.log_events.specs.Cuts.{BeginsSession, EndsWell, FindsNothingInOrder, HasPlainEnds, HasStartsBefore, IsClosedCut, IsCutSession, ReturnsWhatWasBegun};
 ghost use Rattle.log_events.specs.Insertions.{IsForked, IsFresh, IsInserted, IsUnread};
 ghost use Rattle.log_events.specs.Shapes.{HasSmallKeys, IsShaped, NamesSmallKeys};
 ghost use Rattle.log_events.specs.Values.{HasDistinctValues};
@@ -57,6 +57,19 @@ pub fn cuts_meet_what_the_log_meets()
     ensures { (es : List Event) (n : ℕ) → IsAllowed es → EndsWell es → HasStartsBefore es n → ReturnsWhatWasBegun es
         → IsDifferentiated (history_of es) → (criterion : Criterion)
         → Meets memory_answer (history_of es) criterion → Meets memory_answer (history_of (take n es)) criterion }
+{}
+
+/// Calls may be lost or fail, and reads may get nothing: a closed cut of a log meets what the log meets. So the log does not meet a criterion
+/// that a closed cut does not meet. Values need not be distinct.
+pub fn closed_cuts_meet_what_the_log_meets()
+    ensures { (es : List Event) (n : ℕ) → IsAllowed es → IsClosedCut es n → (criterion : Criterion)
+        → Meets memory_answer (history_of es) criterion → Meets memory_answer (history_of (take n es)) criterion }
+{}
+
+/// Where each read of a log returns what was begun before, values are distinct, and a read that got nothing of a key that is deleted
+/// somewhere ends after the begin of such a delete, each cut is closed.
+pub fn cuts_of_logs_in_order_are_closed()
+    ensures { (es : List Event) (n : ℕ) → ReturnsWhatWasBegun es → FindsNothingInOrder es → HasDistinctValues es → IsClosedCut es n }
 {}
 
 /// A read whose return is unknown may be left out anywhere: a history meets each criterion with it exactly where it does without.
