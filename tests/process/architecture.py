@@ -29,7 +29,7 @@ LAYERS = {
     "live": "histories while they happen: recorder, seals, replicas, driver, desk, scripts",
     "app": "the program: command line, findings, explanations, engine, logs, pages, process",
     "causal": "what is built: the program and the library",
-    "test": "tests of calls, their assertions, and a program that measures",
+    "test": "tests of calls, and their assertions",
 }
 # What a crate's own tests use of a layer above it.
 OF_TESTS = {("causal_judge_library", "test_expectations")}

@@ -6,9 +6,9 @@ of 100,000 lines, and texts of 67,108,864 bytes.
 
 The script records nothing, so its sealer is done after two looks: each further look is refused, and each step has its line. The last of as
 many steps may be bad. In each history the happened-before relation of an operation has as many pairs, or a few more or fewer, as the makers
-of certificates keep of one that the causal order does not have: it is decided all the same, and `explain` says in words and as JSON whether
-it has a certificate of causal memory. Each line of a derivation holds, and one line more than there may be is one too many; so is one byte
-more of a text. The last line is `N passed, M failed`, and the status is 1 where something failed.
+of certificates keep of one that the causal order does not have: it is decided all the same, and `explain` shows its pattern, or says in words
+and as JSON whether it has a certificate of causal memory. Each line of a derivation holds, and one line more than there may be is one too
+many; so is one byte more of a text. The last line is `N passed, M failed`, and the status is 1 where something failed.
 """
 
 import argparse
@@ -79,6 +79,10 @@ def cases_of_pairs(program):
     for more, is_cyclic in PAIRS:
         found = said(program, "judge", many_pairs(more, is_cyclic))
         yield f"pairs {more} {is_cyclic}", found == (0, CYCLIC if is_cyclic else MET, "")
+        if is_cyclic:
+            status, text, _ = said(program, "explain --json", many_pairs(more, True))
+            shown = [reason[2][0] for reason in json.loads(text)[1:]] if status == 0 else []
+            yield f"pairs {more} with a pattern", shown == ["CyclicHB", "CyclicCF"]
     for more, line in ((248, WRITTEN), (249, GIVEN_UP)):
         wanted = f"cc yes\n{WRITTEN}\ncm yes\n{line}\nccv yes\n{WRITTEN}\n"
         yield f"pairs {more} in words", said(program, "explain", many_pairs(more, False)) == (0, wanted, "")

@@ -198,10 +198,6 @@ INPUTS = (
 
 # Tests of crates/test_acceptance, each with the texts that it has to print in some run.
 REPEATING = (
-    ("seals::a_seal_holds_what_it_is_told_and_more", ()),
-    ("replicas::replicas_of_the_causal_store_answer", ()),
-    ("replicas::replicas_of_the_store_by_stamps_answer", ()),
-    ("replicas::replica_goes_on_from_a_copy", ()),
     ("desks::file", ()),
     (
         "desks::abandoned",

@@ -1,12 +1,9 @@
 //! Case files, and how they are read from texts.
 
-use crate::histories::memory;
 use cert_check::{CaseFile, Certificate, Criterion, read_certificate};
-use json::{Reader, Scratch};
-use json_bounded::MAX_DEPTH;
+use json_histories::{AnyHistory, History, read_history};
 use model_objects::Memory;
-use pattern_check::{Pattern, Refutable};
-use pattern_json::next_pattern;
+use pattern_check::Refutable;
 use serde_json::Value;
 use std::alloc::Global;
 
@@ -66,24 +63,37 @@ pub fn file_of(alloc: Global, text: FileText) -> Option<CaseFile<Memory>> {
     match text.certificate {
         Some(certificate) => {
             let certificate = certificate_of(alloc, certificate)?;
-            file_with(alloc, text, Some(certificate))
+            file_with(alloc, text.criterion, text.history, Some(certificate))
         }
-        None => file_with(alloc, text, None),
+        None => file_with(alloc, text.criterion, text.history, None),
     }
 }
 
-/// The case file of a text, with this certificate or none.
-fn file_with(
+/// The case file of the history in a text, with this certificate or none.
+pub fn file_with(
     alloc: Global,
-    text: FileText,
+    criterion: Criterion,
+    history: &str,
     certificate: Option<Certificate>,
 ) -> Option<CaseFile<Memory>> {
-    match memory(alloc, text.history) {
-        Some(history) => CaseFile::new(history, text.criterion, certificate).ok(),
+    match memory(alloc, history) {
+        Some(history) => CaseFile::new(history, criterion, certificate).ok(),
         None => {
             drop(certificate);
             None
         }
+    }
+}
+
+/// The history of a memory in a text.
+fn memory(alloc: Global, text: &str) -> Option<History<Memory>> {
+    match read_history(alloc, text.as_bytes()) {
+        Ok(AnyHistory::Memory(history)) => Some(history),
+        Ok(other) => {
+            other.discard();
+            None
+        }
+        Err(_refused) => None,
     }
 }
 
@@ -93,11 +103,4 @@ pub fn certificate_of(alloc: Global, text: &str) -> Option<Certificate> {
     let certificate = read_certificate(alloc, &value).ok();
     drop(value);
     certificate
-}
-
-/// The pattern in a text.
-pub fn pattern_of(alloc: Global, text: &str) -> Option<Pattern> {
-    let mut scratch = Scratch::new(alloc);
-    let mut reader = Reader::new(text, &mut scratch).ok()?;
-    next_pattern(alloc, &mut reader, MAX_DEPTH).ok()?
 }

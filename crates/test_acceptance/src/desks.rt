@@ -4,12 +4,12 @@ ghost use Rattle.std.specs.Prelude.{◌≡◌};
 
 use crate::case_files::{
     FileText, Filed, NO_OPERATION, READ_AFTER_ITS_WRITE, THREE_OF_ONE_SESSION,
-    VALUES_THAT_NOBODY_WROTE, WITHOUT_A_CERTIFICATE, pattern_of,
+    VALUES_THAT_NOBODY_WROTE, WITHOUT_A_CERTIFICATE,
 };
 use cert_check::{Criterion, DeskError, Outcome};
-use json_histories::OpId;
 use judge_workers::OpenGate;
 use live_case_desk::{Answer, Desk, Shelf, ShelfName, Ticket, Verdict};
+use model_history::OpId;
 use model_objects::Memory;
 use pattern_check::{Kind, Pattern, Refutable};
 use std::alloc::{AllocError, Global};
@@ -36,7 +36,8 @@ enum Event {
     Check(OpId),
     Put(usize),
     Ask,
-    Refute(&'static str),
+    /// Puts the pattern of a read of a value that nobody wrote.
+    Refute(OpId),
     Pattern,
     Settle,
 }
@@ -52,7 +53,7 @@ enum Seen {
     Asked(Answer),
     Piece(u32, OpId),
     Checked(u32, OpId, Outcome),
-    /// The read that a thin-air read names.
+    /// The read of the pattern that a case keeps.
     Pattern(Option<OpId>),
     /// The criterion of a file that came back.
     Back(Criterion),
@@ -111,13 +112,6 @@ const VERDICTS: [(Step, Seen); 18] = [
     (Step::On(2, Event::Ask), Seen::Asked(Answer::Yes)),
 ];
 
-/// Two patterns of the case, and one that is not in its history.
-const SECOND_IS_THIN_AIR: &str = r#"["ThinAirRead",[0,1]]"#;
-
-const FIRST_IS_THIN_AIR: &str = r#"["ThinAirRead",[0,0]]"#;
-
-const NO_SUCH_READ: &str = r#"["ThinAirRead",[5,0]]"#;
-
 const PATTERNS: [(Step, Seen); 14] = [
     (Step::File(VALUES_THAT_NOBODY_WROTE), Seen::Number(0)),
     (
@@ -130,14 +124,14 @@ const PATTERNS: [(Step, Seen); 14] = [
         Step::On(0, Event::Ask),
         Seen::Asked(Answer::Unknown(Some(FIRST))),
     ),
-    (Step::On(0, Event::Refute(NO_SUCH_READ)), Seen::Refused(23)),
+    (Step::On(0, Event::Refute(NO_SUCH)), Seen::Refused(23)),
     (Step::On(0, Event::Pattern), Seen::Pattern(None)),
-    (Step::On(0, Event::Refute(SECOND_IS_THIN_AIR)), Seen::Done),
+    (Step::On(0, Event::Refute(SECOND)), Seen::Done),
     (
         Step::On(0, Event::Ask),
         Seen::Asked(Answer::No(Kind::ThinAirRead)),
     ),
-    (Step::On(0, Event::Refute(FIRST_IS_THIN_AIR)), Seen::Done),
+    (Step::On(0, Event::Refute(FIRST)), Seen::Done),
     (Step::On(0, Event::Pattern), Seen::Pattern(Some(SECOND))),
     (Step::File(READ_AFTER_ITS_WRITE), Seen::Number(1)),
     (Step::Take, Seen::Piece(1, FIRST)),
@@ -227,26 +221,15 @@ fn file(rt: HostRuntime) -> Result<(), Fail> {
     expect_ok(unwanted, None)
 }
 
-/// A case of three pieces is worked on, and worked on once more, and settled.
-const WORKED_TWICE: [Step; 7] = [
-    Step::File(THREE_OF_ONE_SESSION),
-    Step::Work,
-    Step::On(0, Event::Ask),
-    Step::Work,
-    Step::On(0, Event::Ask),
-    Step::On(0, Event::Settle),
-    Step::On(0, Event::Ask),
-];
-
-/// What is seen where nothing is refused.
-const WORKED: [Seen; 7] = [
-    Seen::Number(0),
-    Seen::Number(3),
-    Seen::Asked(Answer::Yes),
-    Seen::Number(0),
-    Seen::Asked(Answer::Yes),
-    Seen::Done,
-    Seen::Asked(Answer::Yes),
+/// A case of three pieces is worked on, and worked on once more, and settled, where nothing is refused.
+const WORKED_TWICE: [(Step, Seen); 7] = [
+    (Step::File(THREE_OF_ONE_SESSION), Seen::Number(0)),
+    (Step::Work, Seen::Number(3)),
+    (Step::On(0, Event::Ask), Seen::Asked(Answer::Yes)),
+    (Step::Work, Seen::Number(0)),
+    (Step::On(0, Event::Ask), Seen::Asked(Answer::Yes)),
+    (Step::On(0, Event::Settle), Seen::Done),
+    (Step::On(0, Event::Ask), Seen::Asked(Answer::Yes)),
 ];
 
 /// What is seen where the check of the first, the second or the third piece is refused memory: the piece that was taken then
@@ -267,11 +250,11 @@ fn abandoned_at(piece: u32) -> [Seen; 7] {
 /// and has to see each piece abandoned.
 #[test]
 fn abandoned(rt: HostRuntime) -> Result<(), Fail> {
-    let seen = match seen_at_memory(&rt, &WORKED_TWICE) {
+    let seen = match seen_at_desk::<Memory, HostRuntime>(&rt, &WORKED_TWICE) {
         Ok(seen) => seen,
-        Err(_refused) => seen_at_memory(&rt, &WORKED_TWICE)?,
+        Err(_refused) => seen_at_desk::<Memory, HostRuntime>(&rt, &WORKED_TWICE)?,
     };
-    if seen.as_slice() != WORKED.as_slice() {
+    if first_other(&WORKED_TWICE, seen.as_slice()).is_some() {
         println!(rt; "{seen:?}")?;
         expect_same(is_abandoned(seen.as_slice()), true)?;
     }
@@ -288,22 +271,18 @@ fn is_abandoned(seen: &[Seen]) -> bool {
     false
 }
 
-/// The number of the first step that gives something else than wanted.
+/// The number of the first step at the desk of a memory of which something else is seen than wanted.
 fn first_unwanted<P: Wait + AllocGlobal>(
     rt: &P,
-    cases: &[(Step, Seen)],
+    steps: &[(Step, Seen)],
 ) -> Result<Option<usize>, AllocError> {
-    let mut steps = Vec::new(rt.alloc());
-    for (step, _) in cases {
-        steps.push(*step)?;
-    }
-    let seen = seen_at_memory(rt, steps.as_slice())?;
-    Ok(first_other(cases, seen.as_slice()))
+    let seen = seen_at_desk::<Memory, P>(rt, steps)?;
+    Ok(first_other(steps, seen.as_slice()))
 }
 
 /// The number of the first step of which something else is seen than wanted.
-fn first_other(cases: &[(Step, Seen)], seen: &[Seen]) -> Option<usize> {
-    for (number, (_, wanted)) in cases.iter().enumerate() {
+fn first_other(steps: &[(Step, Seen)], seen: &[Seen]) -> Option<usize> {
+    for (number, (_, wanted)) in steps.iter().enumerate() {
         if seen.get(number) != Some(wanted) {
             return Some(number);
         }
@@ -311,15 +290,10 @@ fn first_other(cases: &[(Step, Seen)], seen: &[Seen]) -> Option<usize> {
     None
 }
 
-/// What is seen of each step at the desk of a memory.
-fn seen_at_memory<P: Wait + AllocGlobal>(rt: &P, steps: &[Step]) -> Result<Vec<Seen>, AllocError> {
-    seen_at_desk::<Memory, P>(rt, steps)
-}
-
 /// What is seen of each step at a desk.
 fn seen_at_desk<O: Filed, P: Wait + AllocGlobal>(
     rt: &P,
-    steps: &[Step],
+    steps: &[(Step, Seen)],
 ) -> Result<Vec<Seen>, AllocError> {
     let shelf = Shelf::new(rt.alloc())?;
     seen_on::<O, Brand, P>(rt, shelf, steps)
@@ -329,7 +303,7 @@ fn seen_at_desk<O: Filed, P: Wait + AllocGlobal>(
 fn seen_on<O: Filed, K: ShelfName, P: Wait + AllocGlobal>(
     rt: &P,
     shelf: Shelf<O>,
-    steps: &[Step],
+    steps: &[(Step, Seen)],
 ) -> Result<Vec<Seen>, AllocError>
     requires { shelf ≡ K.shelf }
 {
@@ -346,114 +320,13 @@ fn seen_of_all<O: Filed, K: ShelfName, P: Wait + AllocGlobal>(
     rt: &P,
     desk: &Desk<O, K>,
     given: &mut Given<O, K>,
-    steps: &[Step],
+    steps: &[(Step, Seen)],
 ) -> Result<Vec<Seen>, AllocError> {
     let mut all = Vec::new(rt.alloc());
-    push_seen(rt, desk, given, &mut all, steps)?;
-    Ok(all)
-}
-
-/// Adds what is seen of each step to the others.
-fn push_seen<O: Filed, K: ShelfName, P: Wait + AllocGlobal>(
-    rt: &P,
-    desk: &Desk<O, K>,
-    given: &mut Given<O, K>,
-    all: &mut Vec<Seen>,
-    steps: &[Step],
-) -> Result<(), AllocError> {
-    for step in steps {
+    for (step, _) in steps {
         all.push(seen_of(rt, desk, given, *step)?)?;
     }
-    Ok(())
-}
-
-/// Steps at a desk, then at a second one, and then at the first again.
-const BEFORE: [Step; 2] = [Step::File(READ_AFTER_ITS_WRITE), Step::On(0, Event::Ask)];
-
-const BESIDE: [Step; 4] = [
-    Step::File(VALUES_THAT_NOBODY_WROTE),
-    Step::Work,
-    Step::On(0, Event::Ask),
-    Step::On(1, Event::Ask),
-];
-
-const AFTER: [Step; 3] = [Step::On(0, Event::Ask), Step::Work, Step::On(0, Event::Ask)];
-
-/// What is seen of them: each desk has a case 0 of its own, and works on that alone.
-const APART: [Seen; 9] = [
-    Seen::Number(0),
-    Seen::Asked(Answer::Open(2)),
-    Seen::Number(0),
-    Seen::Number(2),
-    Seen::Asked(Answer::Unknown(Some(FIRST))),
-    Seen::Nothing,
-    Seen::Asked(Answer::Open(2)),
-    Seen::Number(2),
-    Seen::Asked(Answer::Yes),
-];
-
-#[test]
-fn two_desks_are_apart(rt: HostRuntime) -> Result<(), Fail> {
-    expect_ok(is_seen_apart(&rt), true)
-}
-
-/// Whether the steps at two desks give what is wanted.
-fn is_seen_apart<P: Wait + AllocGlobal>(rt: &P) -> Result<bool, AllocError> {
-    let seen = seen_at_one_of_two::<Memory, P>(rt)?;
-    Ok(seen.as_slice() == APART.as_slice())
-}
-
-/// What is seen of the steps at two desks, each with a shelf of its own.
-fn seen_at_one_of_two<O: Filed, P: Wait + AllocGlobal>(rt: &P) -> Result<Vec<Seen>, AllocError> {
-    let shelf = Shelf::new(rt.alloc())?;
-    seen_beside::<O, Brand, P>(rt, shelf)
-}
-
-/// The same where the shelf of the first is named.
-fn seen_beside<O: Filed, K: ShelfName, P: Wait + AllocGlobal>(
-    rt: &P,
-    shelf: Shelf<O>,
-) -> Result<Vec<Seen>, AllocError>
-    requires { shelf ≡ K.shelf }
-{
-    let desk = Desk::<O, K>::on(rt.alloc(), shelf)?;
-    let mut given = Given::none(rt.alloc());
-    let seen = seen_around(rt, &desk, &mut given);
-    drop(given);
-    drop(desk);
-    seen
-}
-
-/// What is seen of the steps at a desk, with those at another between.
-fn seen_around<O: Filed, K: ShelfName, P: Wait + AllocGlobal>(
-    rt: &P,
-    desk: &Desk<O, K>,
-    given: &mut Given<O, K>,
-) -> Result<Vec<Seen>, AllocError> {
-    let mut all = Vec::new(rt.alloc());
-    push_around(rt, desk, given, &mut all)?;
     Ok(all)
-}
-
-/// Adds what is seen of the steps at a desk to the others, with what is seen at another between.
-fn push_around<O: Filed, K: ShelfName, P: Wait + AllocGlobal>(
-    rt: &P,
-    desk: &Desk<O, K>,
-    given: &mut Given<O, K>,
-    all: &mut Vec<Seen>,
-) -> Result<(), AllocError> {
-    push_seen(rt, desk, given, all, &BEFORE)?;
-    push_beside::<O, P>(rt, all)?;
-    push_seen(rt, desk, given, all, &AFTER)
-}
-
-/// Adds what is seen of the steps at a second desk to the others.
-fn push_beside<O: Filed, P: Wait + AllocGlobal>(
-    rt: &P,
-    all: &mut Vec<Seen>,
-) -> Result<(), AllocError> {
-    let beside = seen_at_desk::<O, P>(rt, &BESIDE)?;
-    all.extend_from_slice(beside.as_slice())
 }
 
 /// The tickets and the verdicts that a desk has given.
@@ -521,7 +394,7 @@ fn seen_on_case<O: Filed, K: ShelfName, P: Wait + AllocGlobal>(
         Event::Check(op) => checked(desk, given, ticket, op),
         Event::Put(verdict) => Ok(put(rt, desk, given, ticket, verdict)),
         Event::Ask => Ok(Seen::Asked(desk.ask(rt, ticket))),
-        Event::Refute(pattern) => refuted(rt, desk, ticket, pattern),
+        Event::Refute(read) => Ok(refuted(rt, desk, ticket, read)),
         Event::Pattern => kept(rt, desk, ticket),
         Event::Settle => Ok(done(desk.settle(rt, ticket))),
     }
@@ -648,17 +521,14 @@ fn put<O: Refutable, K: ShelfName, P: Wait>(
     }
 }
 
-/// Puts a pattern.
-fn refuted<O: Refutable, K: ShelfName, P: Wait + AllocGlobal>(
+/// Puts the pattern of a read of a value that nobody wrote.
+fn refuted<O: Refutable, K: ShelfName, P: Wait>(
     rt: &P,
     desk: &Desk<O, K>,
     ticket: &Ticket<O, K>,
-    pattern: &str,
-) -> Result<Seen, AllocError> {
-    match pattern_of(rt.alloc(), pattern) {
-        Some(pattern) => Ok(done(desk.refute(rt, ticket, pattern))),
-        None => Err(AllocError),
-    }
+    read: OpId,
+) -> Seen {
+    done(desk.refute(rt, ticket, Pattern::ThinAirRead(read)))
 }
 
 /// The pattern that a case keeps.

@@ -1,21 +1,12 @@
-//! Tests of calls that no table of cases can make: desks and their workers, recorders and their seals, replicas step by step, the starts of
-//! objects, parts of histories, certificates from advice, clients that run at the same time, what is found where memory was
-//! refused before, and the assertions that all tests make.
+//! Tests of what no clause says and no table of cases can say: that what is done at a desk stays there, that workers check pieces side by
+//! side, what a look finds in a cell, that full recorders are sealed, and how long that takes, that a checker goes on from a piece of its
+//! own session alone, and that the assertions of tests refuse other values.
 //!
-//! The tables of `tests/cases` test what the words of a command line and an input give. Some rows here try what a contract says of every
-//! input: they fail where a contract is wrong and its body with it.
+//! The tables of `tests/cases` test what the words of a command line and an input give.
 #![tactic(auto)]
 
 #[cfg(test)]
-mod advised;
-#[cfg(test)]
 mod case_files;
-#[cfg(test)]
-mod cores;
-#[cfg(test)]
-mod counters;
-#[cfg(test)]
-mod cut_histories;
 #[cfg(test)]
 mod desks;
 #[cfg(test)]
@@ -23,34 +14,6 @@ mod expected;
 #[cfg(test)]
 mod held_workers;
 #[cfg(test)]
-mod histories;
-#[cfg(test)]
-mod judgements;
-#[cfg(test)]
-mod many_pairs;
-#[cfg(test)]
-mod meeting;
-#[cfg(test)]
-mod object_starts;
-#[cfg(test)]
-mod receipts;
-#[cfg(test)]
-mod recorder_steps;
-#[cfg(test)]
-mod recordings;
+mod recorders;
 #[cfg(test)]
 mod replayed_pieces;
-#[cfg(test)]
-mod replica_steps;
-#[cfg(test)]
-mod replicas;
-#[cfg(test)]
-mod rows;
-#[cfg(test)]
-mod seal_cut;
-#[cfg(test)]
-mod seal_steps;
-#[cfg(test)]
-mod seals;
-#[cfg(test)]
-mod worded;

@@ -1,7 +1,6 @@
 //! One checker checks pieces of two sessions, one after the other.
 
-use crate::case_files::certificate_of;
-use crate::histories::{joined, memory};
+use crate::case_files::{certificate_of, file_with};
 use cert_check::{CaseFile, Criterion, Outcome, PieceChecker};
 use model_history::OpId;
 use model_object_trait::SeqObject;
@@ -66,18 +65,29 @@ fn schedules_of(alloc: Global) -> Result<String, AllocError> {
     )
 }
 
+/// Pieces one after the other, each so many times.
+fn joined(alloc: Global, pieces: &[(&str, usize)]) -> Result<String, AllocError> {
+    let mut text = String::new(alloc);
+    for (piece, times) in pieces {
+        push_times(&mut text, piece, *times)?;
+    }
+    Ok(text)
+}
+
+/// Puts a piece so many times into a text.
+fn push_times(text: &mut String, piece: &str, times: usize) -> Result<(), AllocError> {
+    for _time in 0..times {
+        text.push_str(piece)?;
+    }
+    Ok(())
+}
+
 /// The case file of the history and the certificate.
 fn case_file_of(alloc: Global) -> Result<Option<CaseFile<Memory>>, AllocError> {
-    let text = schedules_of(alloc)?;
-    let certificate = certificate_of(alloc, text.as_str());
-    let text = history_of(alloc)?;
-    match memory(alloc, text.as_str()) {
-        Some(history) => Ok(CaseFile::new(history, Criterion::Cm, certificate).ok()),
-        None => {
-            drop(certificate);
-            Ok(None)
-        }
-    }
+    let certificate = schedules_of(alloc)?;
+    let history = history_of(alloc)?;
+    let certificate = certificate_of(alloc, certificate.as_str());
+    Ok(file_with(alloc, Criterion::Cm, history.as_str(), certificate))
 }
 
 /// What one checker finds of the pieces of both operations, one after the other. None where the file has no such pieces.
