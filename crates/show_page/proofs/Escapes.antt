@@ -12,44 +12,35 @@ use Rattle.show_page.specs.declared.escaping.Within.TheVariants.{Json, Markup}
 abbrev IsPlain : ℕ → Type 0
 IsPlain b = b ≢ 0x3C
 
-json_is_plain : BeginsNoMarkup (codes "\\u003c")
-json_is_plain =
-    All-cons IsPlain 92 (117 ∷ 48 ∷ 48 ∷ 51 ∷ 99 ∷ []) (eqb-false 92 0x3C refl)
-    (All-cons IsPlain 117 (48 ∷ 48 ∷ 51 ∷ 99 ∷ []) (eqb-false 117 0x3C refl)
-    (All-cons IsPlain 48 (48 ∷ 51 ∷ 99 ∷ []) (eqb-false 48 0x3C refl)
-    (All-cons IsPlain 48 (51 ∷ 99 ∷ []) (eqb-false 48 0x3C refl)
-    (All-cons IsPlain 51 (99 ∷ []) (eqb-false 51 0x3C refl)
-    (All-cons IsPlain 99 [] (eqb-false 99 0x3C refl) (All-nil IsPlain))))))
+-- a text whose bytes are tested one by one
+abbrev pub each_is_plain : List ℕ → Bool
+each_is_plain [] = true
+each_is_plain (b ∷ text) = if b == 0x3C then false else each_is_plain text
 
-less_is_plain : BeginsNoMarkup (codes "&lt;")
-less_is_plain =
-    All-cons IsPlain 38 (108 ∷ 116 ∷ 59 ∷ []) (eqb-false 38 0x3C refl)
-    (All-cons IsPlain 108 (116 ∷ 59 ∷ []) (eqb-false 108 0x3C refl)
-    (All-cons IsPlain 116 (59 ∷ []) (eqb-false 116 0x3C refl)
-    (All-cons IsPlain 59 [] (eqb-false 59 0x3C refl) (All-nil IsPlain))))
+plain_in_front : (b : Bool) (rest : Bool) → (if b then false else rest) ≡ true → (b ≡ false) × (rest ≡ true)
+plain_in_front true rest e = search
+plain_in_front false rest e = (refl, e)
 
-and_is_plain : BeginsNoMarkup (codes "&amp;")
-and_is_plain =
-    All-cons IsPlain 38 (97 ∷ 109 ∷ 112 ∷ 59 ∷ []) (eqb-false 38 0x3C refl)
-    (All-cons IsPlain 97 (109 ∷ 112 ∷ 59 ∷ []) (eqb-false 97 0x3C refl)
-    (All-cons IsPlain 109 (112 ∷ 59 ∷ []) (eqb-false 109 0x3C refl)
-    (All-cons IsPlain 112 (59 ∷ []) (eqb-false 112 0x3C refl)
-    (All-cons IsPlain 59 [] (eqb-false 59 0x3C refl) (All-nil IsPlain)))))
+pub plain_text : (text : List ℕ) → each_is_plain text ≡ true → BeginsNoMarkup text
+plain_text [] e = All-nil IsPlain
+plain_text (b ∷ text) e =
+    let parts = plain_in_front (b == 0x3C) (each_is_plain text) e in
+    All-cons IsPlain b text (eqb-false b 0x3C parts.0) (plain_text text parts.1)
 
 one_is_plain : (b : ℕ) → (b == 0x3C) ≡ false → BeginsNoMarkup (b ∷ [])
 one_is_plain b is = All-cons IsPlain b [] (eqb-false b 0x3C is) (All-nil IsPlain)
 
 by_json_test : (b : ℕ) (test : Bool) → (b == 0x3C) ≡ test → BeginsNoMarkup (if test then codes "\\u003c" else b ∷ [])
-by_json_test b true is = json_is_plain
+by_json_test b true is = plain_text (codes "\\u003c") refl
 by_json_test b false is = one_is_plain b is
 
 by_and_test : (b : ℕ) (test : Bool) → (b == 0x3C) ≡ false → BeginsNoMarkup (if test then codes "&amp;" else b ∷ [])
-by_and_test b true is = and_is_plain
+by_and_test b true is = plain_text (codes "&amp;") refl
 by_and_test b false is = one_is_plain b is
 
 by_markup_test : (b : ℕ) (test : Bool) → (b == 0x3C) ≡ test
     → BeginsNoMarkup (if test then codes "&lt;" else if b == 0x26 then codes "&amp;" else b ∷ [])
-by_markup_test b true is = less_is_plain
+by_markup_test b true is = plain_text (codes "&lt;") refl
 by_markup_test b false is = by_and_test b (b == 0x26) is
 
 byte_is_plain : (within : Within) (b : ℕ) → BeginsNoMarkup (shown_byte within b)

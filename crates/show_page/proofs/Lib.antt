@@ -1,2 +1,4 @@
 mod Escapes
+mod OwnPieces
 mod Pieces
+mod Reading

@@ -1,1 +1,4 @@
+mod Contents
 mod Markup
+mod Reading
+mod Values

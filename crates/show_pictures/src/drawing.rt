@@ -1,6 +1,7 @@
 //! The SVG text of a picture.
 
-ghost use Rattle.std.specs.Prelude.{◌≡◌, ◌++◌, codes, IfOk, string_bytes};
+ghost use Rattle.std.specs.Prelude.{◌≡◌, ◌++◌, codes, IfOk, OnOk, string_bytes};
+ghost use Rattle.show_pictures.specs.Steps.Drawing.{AppendsContent, BeginsContent, IsWithin};
 ghost use Rattle.show_pictures.specs.Markup.{IsSvgElement};
 
 use crate::drawing_edges::draw_edges;
@@ -90,7 +91,9 @@ fn drawing_with(alloc: Global, scene: &Scene, parts: Parts) -> Result<String, Al
 }
 
 // What the SVG element has between its first word and its end: its attributes, and all of a scene.
-fn within_of(alloc: Global, scene: &Scene, parts: Parts) -> Result<String, AllocError> {
+fn within_of(alloc: Global, scene: &Scene, parts: Parts) -> Result<String, AllocError>
+    ensures { IfOk result (λ within. IsWithin (string_bytes within)) }
+{
     let mut within = String::new(alloc);
     push_attributes(&mut within, parts.layout)?;
     draw_scene(alloc, &mut within, scene, parts)?;
@@ -98,7 +101,9 @@ fn within_of(alloc: Global, scene: &Scene, parts: Parts) -> Result<String, Alloc
 }
 
 // Writes the attributes of the SVG element: its size, and the fonts of its texts.
-fn push_attributes(svg: &mut String, layout: &Layout) -> Result<(), AllocError> {
+fn push_attributes(svg: &mut String, layout: &Layout) -> Result<(), AllocError>
+    ensures { OnOk result (BeginsContent (string_bytes svg.old) (string_bytes svg.new)) }
+{
     let width = layout.width();
     let height = layout.height();
     write!(
@@ -116,7 +121,9 @@ fn draw_scene(
     svg: &mut String,
     scene: &Scene,
     parts: Parts,
-) -> Result<(), AllocError> {
+) -> Result<(), AllocError>
+    ensures { OnOk result (AppendsContent (string_bytes svg.old) (string_bytes svg.new)) }
+{
     draw_head(alloc, svg, parts.layout, scene.lines, parts.edges)?;
     draw_lane_lines(alloc, svg, parts.layout, scene.rows.lanes())?;
     draw_edges(svg, parts.layout, parts.ports, parts.edges)?;

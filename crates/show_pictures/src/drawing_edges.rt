@@ -1,5 +1,9 @@
 //! The edges of a picture, which run between the boxes.
 
+ghost use Rattle.std.specs.Prelude.{◌≡◌, ◌++◌, codes, IsTrue, OnOk, string_bytes};
+ghost use Rattle.show_pictures.specs.Steps.Drawing.{AppendsContent, AppendsMeasures, EndsPath};
+ghost use Rattle.show_pictures.specs.Markup.{AreAttributes, is_value};
+
 use crate::edges::Edge;
 use crate::layout::{Layout, Length, lesser};
 use crate::marks::Relation;
@@ -14,7 +18,9 @@ pub(crate) fn draw_edges(
     layout: &Layout,
     ports: &Ports,
     edges: &[Edge],
-) -> Result<(), AllocError> {
+) -> Result<(), AllocError>
+    ensures { OnOk result (AppendsContent (string_bytes svg.old) (string_bytes svg.new)) }
+{
     svg.push_str("<g class=\"edges\">\n")?;
     for (number, edge) in edges.iter().enumerate() {
         let ends = ends_of(layout, ports, number, edge);
@@ -52,7 +58,9 @@ fn push_path(
     edge: &Edge,
     ends: Ends,
     track: Part,
-) -> Result<(), AllocError> {
+) -> Result<(), AllocError>
+    ensures { OnOk result (AppendsMeasures (string_bytes svg.old) (string_bytes svg.new)) }
+{
     if edge.is_straight() {
         push_path_down(svg, layout, edge)
     } else if edge.from.lane == edge.to.lane {
@@ -65,7 +73,9 @@ fn push_path(
 }
 
 // Down from a box to the next.
-fn push_path_down(svg: &mut String, layout: &Layout, edge: &Edge) -> Result<(), AllocError> {
+fn push_path_down(svg: &mut String, layout: &Layout, edge: &Edge) -> Result<(), AllocError>
+    ensures { OnOk result (AppendsMeasures (string_bytes svg.old) (string_bytes svg.new)) }
+{
     let x = layout.middle(edge.from.lane as u64);
     let y = layout.bottom(edge.from.row);
     let end = layout.top(edge.to.row);
@@ -73,7 +83,9 @@ fn push_path_down(svg: &mut String, layout: &Layout, edge: &Edge) -> Result<(), 
 }
 
 // A bow beside the lane: the longer, the farther.
-fn push_path_in_lane(svg: &mut String, edge: &Edge, ends: Ends) -> Result<(), AllocError> {
+fn push_path_in_lane(svg: &mut String, edge: &Edge, ends: Ends) -> Result<(), AllocError>
+    ensures { OnOk result (AppendsMeasures (string_bytes svg.old) (string_bytes svg.new)) }
+{
     let Ends { x, y, end_x, end_y } = ends;
     let bend = bow_of(edge, x);
     write!(svg, "M{x} {y}")?;
@@ -91,7 +103,9 @@ fn bow_of(edge: &Edge, x: Length) -> Length {
 }
 
 // A curve through the room between two lanes.
-fn push_path_to_neighbour(svg: &mut String, edge: &Edge, ends: Ends) -> Result<(), AllocError> {
+fn push_path_to_neighbour(svg: &mut String, edge: &Edge, ends: Ends) -> Result<(), AllocError>
+    ensures { OnOk result (AppendsMeasures (string_bytes svg.old) (string_bytes svg.new)) }
+{
     let Ends { x, y, end_x, end_y } = ends;
     write!(svg, "M{x} {y}")?;
     push_curve(svg, y, bends_between(edge, x, end_x), [end_x, end_y])
@@ -104,7 +118,9 @@ fn push_path_across(
     edge: &Edge,
     ends: Ends,
     track: Part,
-) -> Result<(), AllocError> {
+) -> Result<(), AllocError>
+    ensures { OnOk result (AppendsMeasures (string_bytes svg.old) (string_bytes svg.new)) }
+{
     let Ends { x, y, end_x, end_y } = ends;
     let way = layout.track(edge.lower_row(), track);
     let [first, last] = passed_by(layout, edge);
@@ -132,7 +148,9 @@ fn push_curve(
     y: Length,
     bends: [Length; 2],
     end: [Length; 2],
-) -> Result<(), AllocError> {
+) -> Result<(), AllocError>
+    ensures { OnOk result (AppendsMeasures (string_bytes svg.old) (string_bytes svg.new)) }
+{
     let [bend, end_bend] = bends;
     let [end_x, end_y] = end;
     write!(svg, "C{bend} {y} {end_bend} {end_y} {end_x} {end_y}")
@@ -151,12 +169,16 @@ fn bends_between(edge: &Edge, x: Length, end_x: Length) -> [Length; 2] {
 }
 
 /// Begins an edge: its path comes next.
-pub(crate) fn begin_edge(svg: &mut String) -> Result<(), AllocError> {
+pub(crate) fn begin_edge(svg: &mut String) -> Result<(), AllocError>
+    ensures { OnOk result (string_bytes svg.new ≡ string_bytes svg.old ++ codes "<path d=\"") }
+{
     svg.push_str("<path d=\"")
 }
 
 /// Ends an edge of a relation, after its path.
-pub(crate) fn end_edge(svg: &mut String, relation: Relation) -> Result<(), AllocError> {
+pub(crate) fn end_edge(svg: &mut String, relation: Relation) -> Result<(), AllocError>
+    ensures { OnOk result (EndsPath (string_bytes svg.old) (string_bytes svg.new)) }
+{
     let color = color_of(relation);
     let dashes = dashes_of(relation);
     let marker = marker_of(relation);
@@ -168,7 +190,9 @@ pub(crate) fn end_edge(svg: &mut String, relation: Relation) -> Result<(), Alloc
 }
 
 /// The colour of a relation.
-pub(crate) fn color_of(relation: Relation) -> &'static str {
+pub(crate) fn color_of(relation: Relation) -> &'static str
+    ensures { IsTrue (is_value result.now) }
+{
     match relation {
         Relation::ProgramOrder => "#4b5563",
         Relation::ReadsFrom => "#0072b2",
@@ -178,7 +202,9 @@ pub(crate) fn color_of(relation: Relation) -> &'static str {
 }
 
 // How the lines of a relation are broken, as an attribute with a space before it.
-fn dashes_of(relation: Relation) -> &'static str {
+fn dashes_of(relation: Relation) -> &'static str
+    ensures { AreAttributes result.now }
+{
     match relation {
         Relation::ProgramOrder | Relation::ReadsFrom => "",
         Relation::Conflict => " stroke-dasharray=\"8 4\"",
@@ -187,7 +213,10 @@ fn dashes_of(relation: Relation) -> &'static str {
 }
 
 /// The name of the arrow head of a relation.
-pub(crate) fn marker_of(relation: Relation) -> &'static str {
+pub(crate) fn marker_of(relation: Relation) -> &'static str
+    ensures is_name { IsTrue (is_value result.now) }
+    ensures is_reference { IsTrue (is_value (codes "url(#" ++ (result.now ++ codes ")"))) }
+{
     match relation {
         Relation::ProgramOrder => "program-order",
         Relation::ReadsFrom => "reads-from",

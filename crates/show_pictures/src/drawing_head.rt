@@ -1,5 +1,8 @@
 //! The head of a picture, and its texts.
 
+ghost use Rattle.std.specs.Prelude.{OnOk, string_bytes};
+ghost use Rattle.show_pictures.specs.Steps.Drawing.{AppendsContent, IsStyle};
+
 use crate::drawing_edges::{color_of, marker_of};
 use crate::edges::{Edge, are_of};
 use crate::escaping::escaped;
@@ -16,7 +19,9 @@ pub(crate) fn draw_head(
     layout: &Layout,
     lines: &[String],
     edges: &[Edge],
-) -> Result<(), AllocError> {
+) -> Result<(), AllocError>
+    ensures { OnOk result (AppendsContent (string_bytes svg.old) (string_bytes svg.new)) }
+{
     draw_title(alloc, svg, lines)?;
     draw_ground(svg, layout)?;
     draw_markers(svg, edges)?;
@@ -24,7 +29,9 @@ pub(crate) fn draw_head(
 }
 
 // Writes the title, which is not seen in the picture itself.
-fn draw_title(alloc: Global, svg: &mut String, lines: &[String]) -> Result<(), AllocError> {
+fn draw_title(alloc: Global, svg: &mut String, lines: &[String]) -> Result<(), AllocError>
+    ensures { OnOk result (AppendsContent (string_bytes svg.old) (string_bytes svg.new)) }
+{
     match lines.first() {
         Some(title) => {
             let title = escaped(alloc, title)?;
@@ -35,7 +42,9 @@ fn draw_title(alloc: Global, svg: &mut String, lines: &[String]) -> Result<(), A
 }
 
 // Draws the ground.
-fn draw_ground(svg: &mut String, layout: &Layout) -> Result<(), AllocError> {
+fn draw_ground(svg: &mut String, layout: &Layout) -> Result<(), AllocError>
+    ensures { OnOk result (AppendsContent (string_bytes svg.old) (string_bytes svg.new)) }
+{
     let width = layout.width();
     let height = layout.height();
     writeln!(
@@ -45,7 +54,9 @@ fn draw_ground(svg: &mut String, layout: &Layout) -> Result<(), AllocError> {
 }
 
 // Writes the lines at the head.
-fn draw_lines(alloc: Global, svg: &mut String, lines: &[String]) -> Result<(), AllocError> {
+fn draw_lines(alloc: Global, svg: &mut String, lines: &[String]) -> Result<(), AllocError>
+    ensures { OnOk result (AppendsContent (string_bytes svg.old) (string_bytes svg.new)) }
+{
     for (number, line) in lines.iter().enumerate() {
         let y = MARGIN + LINE_HEIGHT * Saturating(number as u64);
         push_text(alloc, svg, MARGIN, y, line_style(number), line)?;
@@ -54,7 +65,9 @@ fn draw_lines(alloc: Global, svg: &mut String, lines: &[String]) -> Result<(), A
 }
 
 // How a line at the head is written.
-fn line_style(number: usize) -> &'static str {
+fn line_style(number: usize) -> &'static str
+    ensures { IsStyle result.now }
+{
     if number == 0 {
         "font-size=\"18\" font-weight=\"700\" fill=\"#111827\""
     } else {
@@ -63,7 +76,9 @@ fn line_style(number: usize) -> &'static str {
 }
 
 // Draws an arrow head for each relation of the edges, which refer to it.
-fn draw_markers(svg: &mut String, edges: &[Edge]) -> Result<(), AllocError> {
+fn draw_markers(svg: &mut String, edges: &[Edge]) -> Result<(), AllocError>
+    ensures { OnOk result (AppendsContent (string_bytes svg.old) (string_bytes svg.new)) }
+{
     svg.push_str("<defs>\n")?;
     for relation in Relation::all() {
         if are_of(edges, relation) {
@@ -74,7 +89,9 @@ fn draw_markers(svg: &mut String, edges: &[Edge]) -> Result<(), AllocError> {
 }
 
 // Draws the arrow head of a relation.
-fn draw_marker(svg: &mut String, relation: Relation) -> Result<(), AllocError> {
+fn draw_marker(svg: &mut String, relation: Relation) -> Result<(), AllocError>
+    ensures { OnOk result (AppendsContent (string_bytes svg.old) (string_bytes svg.new)) }
+{
     let id = marker_of(relation);
     let color = color_of(relation);
     write!(
@@ -96,7 +113,10 @@ pub(crate) fn push_text(
     y: Length,
     style: &str,
     words: &str,
-) -> Result<(), AllocError> {
+) -> Result<(), AllocError>
+    requires { IsStyle style.now }
+    ensures { OnOk result (AppendsContent (string_bytes svg.old) (string_bytes svg.new)) }
+{
     let words = escaped(alloc, words)?;
     writeln!(svg, "<text x=\"{x}\" y=\"{y}\" {style}>{words}</text>")
 }

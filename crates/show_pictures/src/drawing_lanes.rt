@@ -1,5 +1,8 @@
 //! The lanes of a picture, with their boxes.
 
+ghost use Rattle.std.specs.Prelude.{OnOk, string_bytes};
+ghost use Rattle.show_pictures.specs.Steps.Drawing.{AppendsContent, IsStyle};
+
 use crate::drawing_head::push_text;
 use crate::lanes::{Entry, Lane, Shown};
 use crate::layout::{Layout, Length, PADDING};
@@ -35,7 +38,9 @@ pub(crate) fn draw_lane_lines(
     svg: &mut String,
     layout: &Layout,
     lanes: &[Lane],
-) -> Result<(), AllocError> {
+) -> Result<(), AllocError>
+    ensures { OnOk result (AppendsContent (string_bytes svg.old) (string_bytes svg.new)) }
+{
     for (number, lane) in lanes.iter().enumerate() {
         draw_lane_line(alloc, svg, layout, number as u64, &lane.name)?;
     }
@@ -49,7 +54,9 @@ fn draw_lane_line(
     layout: &Layout,
     number: u64,
     name: &str,
-) -> Result<(), AllocError> {
+) -> Result<(), AllocError>
+    ensures { OnOk result (AppendsContent (string_bytes svg.old) (string_bytes svg.new)) }
+{
     let x = layout.middle(number);
     let y = layout.lanes_top();
     let style = "font-size=\"14\" font-weight=\"600\" fill=\"#374151\" text-anchor=\"middle\"";
@@ -66,7 +73,9 @@ pub(crate) fn draw_lanes(
     svg: &mut String,
     layout: &Layout,
     rows: &LaneRows,
-) -> Result<(), AllocError> {
+) -> Result<(), AllocError>
+    ensures { OnOk result (AppendsContent (string_bytes svg.old) (string_bytes svg.new)) }
+{
     for (number, lane) in rows.lanes().iter().enumerate() {
         draw_lane(alloc, svg, layout, rows, number, lane)?;
     }
@@ -81,7 +90,9 @@ fn draw_lane(
     rows: &LaneRows,
     number: usize,
     lane: &Lane,
-) -> Result<(), AllocError> {
+) -> Result<(), AllocError>
+    ensures { OnOk result (AppendsContent (string_bytes svg.old) (string_bytes svg.new)) }
+{
     for (place, entry) in lane.entries.iter().enumerate() {
         let row = rows.row(number, place).unwrap_or(0);
         draw_entry(alloc, svg, layout, number as u64, row, entry)?;
@@ -97,7 +108,9 @@ fn draw_entry(
     lane: u64,
     row: u64,
     entry: &Entry,
-) -> Result<(), AllocError> {
+) -> Result<(), AllocError>
+    ensures { OnOk result (AppendsContent (string_bytes svg.old) (string_bytes svg.new)) }
+{
     match entry {
         Entry::Operation(shown) => draw_operation(alloc, svg, layout, lane, row, shown),
         Entry::Gap(count) => draw_gap(alloc, svg, layout, lane, row, *count),
@@ -112,7 +125,9 @@ fn draw_operation(
     lane: u64,
     row: u64,
     shown: &Shown,
-) -> Result<(), AllocError> {
+) -> Result<(), AllocError>
+    ensures { OnOk result (AppendsContent (string_bytes svg.old) (string_bytes svg.new)) }
+{
     let emphasis = emphasis_of(shown);
     draw_box(svg, layout, lane, row, emphasis)?;
     let x = layout.left(lane) + PADDING;
@@ -143,7 +158,9 @@ fn draw_fault(
     lane: u64,
     row: u64,
     words: &str,
-) -> Result<(), AllocError> {
+) -> Result<(), AllocError>
+    ensures { OnOk result (AppendsContent (string_bytes svg.old) (string_bytes svg.new)) }
+{
     let x = layout.left(lane) + PADDING;
     let y = layout.center(row) + Saturating(14);
     let style = "font-size=\"11\" font-weight=\"700\" fill=\"#b91c1c\"";
@@ -151,7 +168,9 @@ fn draw_fault(
 }
 
 // How the label of an operation is written.
-fn label_style(emphasis: Emphasis) -> &'static str {
+fn label_style(emphasis: Emphasis) -> &'static str
+    ensures { IsStyle result.now }
+{
     match emphasis {
         Emphasis::Wrong => {
             "font-family=\"ui-monospace, Menlo, Consolas, monospace\" font-size=\"14\" font-weight=\"700\" fill=\"#7f1d1d\""
@@ -172,7 +191,9 @@ fn draw_box(
     lane: u64,
     row: u64,
     emphasis: Emphasis,
-) -> Result<(), AllocError> {
+) -> Result<(), AllocError>
+    ensures { OnOk result (AppendsContent (string_bytes svg.old) (string_bytes svg.new)) }
+{
     let x = layout.left(lane);
     let y = layout.top(row);
     let width = layout.box_width();
@@ -186,7 +207,9 @@ fn draw_box(
 }
 
 /// How a box is drawn.
-pub(crate) fn box_style(emphasis: Emphasis) -> &'static str {
+pub(crate) fn box_style(emphasis: Emphasis) -> &'static str
+    ensures { IsStyle result.now }
+{
     match emphasis {
         Emphasis::Wrong => {
             "class=\"wrong\" fill=\"#fee2e2\" stroke=\"#b91c1c\" stroke-width=\"4\""
@@ -206,7 +229,9 @@ fn draw_gap(
     lane: u64,
     row: u64,
     count: u64,
-) -> Result<(), AllocError> {
+) -> Result<(), AllocError>
+    ensures { OnOk result (AppendsContent (string_bytes svg.old) (string_bytes svg.new)) }
+{
     draw_gap_ground(svg, layout, lane, row)?;
     let words = format!(in alloc; "⋮ {count} left out")?;
     let style = "font-size=\"13\" font-style=\"italic\" fill=\"#6b7280\" text-anchor=\"middle\"";
@@ -215,12 +240,9 @@ fn draw_gap(
 }
 
 // Draws the ground of a gap.
-fn draw_gap_ground(
-    svg: &mut String,
-    layout: &Layout,
-    lane: u64,
-    row: u64,
-) -> Result<(), AllocError> {
+fn draw_gap_ground(svg: &mut String, layout: &Layout, lane: u64, row: u64) -> Result<(), AllocError>
+    ensures { OnOk result (AppendsContent (string_bytes svg.old) (string_bytes svg.new)) }
+{
     let x = layout.left(lane);
     let y = layout.center(row) - Saturating(12);
     let width = layout.box_width();

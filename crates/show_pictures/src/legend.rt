@@ -1,5 +1,8 @@
 //! The legend of a picture: what each kind of box and of edge in it means.
 
+ghost use Rattle.std.specs.Prelude.{OnOk, string_bytes};
+ghost use Rattle.show_pictures.specs.Steps.Drawing.{AppendsContent};
+
 use crate::captions::words_of_relation;
 use crate::drawing_edges::{begin_edge, end_edge};
 use crate::drawing_head::push_text;
@@ -99,7 +102,9 @@ pub(crate) fn draw_legend(
     svg: &mut String,
     layout: &Layout,
     legend: &[LegendEntry],
-) -> Result<(), AllocError> {
+) -> Result<(), AllocError>
+    ensures { OnOk result (AppendsContent (string_bytes svg.old) (string_bytes svg.new)) }
+{
     svg.push_str("<g class=\"legend\">\n")?;
     for (number, entry) in legend.iter().enumerate() {
         let place = layout.legend_place(number as u64);
@@ -114,7 +119,9 @@ fn draw_entry(
     svg: &mut String,
     place: (Length, Length),
     entry: LegendEntry,
-) -> Result<(), AllocError> {
+) -> Result<(), AllocError>
+    ensures { OnOk result (AppendsContent (string_bytes svg.old) (string_bytes svg.new)) }
+{
     draw_sign(svg, place, entry)?;
     let (x, middle) = place;
     let (x, y) = (x + Saturating(50), middle + Saturating(5));
@@ -127,7 +134,9 @@ fn draw_sign(
     svg: &mut String,
     place: (Length, Length),
     entry: LegendEntry,
-) -> Result<(), AllocError> {
+) -> Result<(), AllocError>
+    ensures { OnOk result (AppendsContent (string_bytes svg.old) (string_bytes svg.new)) }
+{
     match entry {
         LegendEntry::Box(emphasis, _) => draw_small_box(svg, place, emphasis),
         LegendEntry::Edge(relation) => draw_short_edge(svg, place, relation),
@@ -147,7 +156,9 @@ fn draw_small_box(
     svg: &mut String,
     place: (Length, Length),
     emphasis: Emphasis,
-) -> Result<(), AllocError> {
+) -> Result<(), AllocError>
+    ensures { OnOk result (AppendsContent (string_bytes svg.old) (string_bytes svg.new)) }
+{
     let (x, middle) = place;
     let y = middle - Saturating(8);
     let style = box_style(emphasis);
@@ -162,7 +173,9 @@ fn draw_short_edge(
     svg: &mut String,
     place: (Length, Length),
     relation: Relation,
-) -> Result<(), AllocError> {
+) -> Result<(), AllocError>
+    ensures { OnOk result (AppendsContent (string_bytes svg.old) (string_bytes svg.new)) }
+{
     let (x, middle) = place;
     let end = x + Saturating(40);
     begin_edge(svg)?;

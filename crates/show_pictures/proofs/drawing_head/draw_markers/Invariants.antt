@@ -1,0 +1,7 @@
+-- The content so far.
+use Rattle.std.proofs.Common.{string_bytes}
+use Rattle.show_pictures.specs.Steps.Drawing.{AppendsContent}
+use Rattle.show_pictures.proofs.drawing_head.draw_markers.Given as goal
+
+abbrev pub invariant-loop-relation : goal.invariant-loop-relation
+invariant-loop-relation l = AppendsContent (string_bytes l.initial.svg) (string_bytes l.svg)
