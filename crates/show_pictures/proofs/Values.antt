@@ -1,5 +1,5 @@
 -- Values of attributes: a number is digits.
-use Rattle.std.proofs.Common.{◌≡◌, ◌<◌, ◌%◌, ◌/◌, ◌==◌, ◌&&◌, ◌||◌, ◌++◌, ℕ, zero, suc, Bool, true, false, List, [], ◌∷◌, arith, refl, if◌then◌else◌, decimal, IsTrue, ap, append-nil, append_assoc, sym, ◌∙◌}
+use Rattle.std.proofs.Common.{◌≡◌, ◌<◌, ◌%◌, ◌/◌, ◌==◌, ◌&&◌, ◌||◌, ◌++◌, ℕ, zero, suc, Bool, true, false, List, [], ◌∷◌, arith, refl, if◌then◌else◌, decimal, IsTrue, ap, append_assoc, ◌∙◌}
 use Rattle.std.specs.Fmt.{digits, digits_onto, digit_glyph}
 use Rattle.std.specs.List.{list_all}
 use Rattle.std.specs.Char.{is_ascii_digit}
@@ -53,9 +53,6 @@ measure-append a b first second = list_all-append is_measure_byte a b ∙ both_t
 -- a number before measures
 pub number_then : (n : ℕ) (rest : List ℕ) → IsTrue (list_all is_measure_byte rest) → IsTrue (list_all is_measure_byte (decimal n ++ rest))
 number_then n rest more = measure-append (decimal n) rest (number_is_measure n) more
-
-pub nothing_measured : (a : List ℕ) → AppendsMeasures a a
-nothing_measured a = record { added = []; is = sym (append-nil a); measures = refl }
 
 pub measures_then : (a b c : List ℕ) → AppendsMeasures a b → AppendsMeasures b c → AppendsMeasures a c
 measures_then a b c first second = record {
