@@ -1,6 +1,6 @@
 //! The hashes of the script and of the style, as the policy of the page has them.
 //!
-//! `tests/page_parts.py --write` writes them anew, here and in the policy, and `tests/pages.py` computes them again.
+//! `tests/pages/page_parts.py --write` writes them anew, here and in the policy, and `tests/process/pages.py` computes them again.
 
 /// The hash of `SCRIPT`, `ZOOMING` and `DRAWING`, joined in this order.
 pub const SCRIPT_HASH: &str = r#"sha256-IxfQXslm0Sv3sWjmleDxgjdsAXqTuLb5aCrYYhkIG8U="#;

@@ -211,7 +211,7 @@ const FILED: [(Step, Seen); 10] = [
     (Step::Take, Seen::Nothing),
 ];
 
-/// `tests/refused_memory.py` refuses each allocation in turn. The test files a case once more where memory was refused.
+/// `tests/process/refused_memory.py` refuses each allocation in turn. The test files a case once more where memory was refused.
 #[test]
 fn file(rt: HostRuntime) -> Result<(), Fail> {
     let unwanted = match first_unwanted(&rt, &FILED) {
@@ -246,8 +246,8 @@ fn abandoned_at(piece: u32) -> [Seen; 7] {
     ]
 }
 
-/// Prints what was seen where memory was refused. The gate sees no refusal; `tests/refused_memory.py` refuses each allocation in turn,
-/// and has to see each piece abandoned.
+/// Prints what was seen where memory was refused. The gate sees no refusal; `tests/process/refused_memory.py` refuses each allocation in
+/// turn, and has to see each piece abandoned.
 #[test]
 fn abandoned(rt: HostRuntime) -> Result<(), Fail> {
     let seen = match seen_at_desk::<Memory, HostRuntime>(&rt, &WORKED_TWICE) {
