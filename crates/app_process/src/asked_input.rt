@@ -26,9 +26,6 @@ use std::sync::Wait;
 use std::thread::Threads;
 use std::time::Clock;
 
-/// The name of standard input, where a file may be named.
-pub(crate) const STANDARD_INPUT: &str = "-";
-
 // The status after an answer that could not be written.
 const UNWRITTEN_STATUS: u8 = 3;
 
@@ -41,13 +38,35 @@ pub(crate) struct Given<'a, P> {
     pub terminals: Terminals,
     /// The words of the process.
     pub words: &'a [String],
-    /// The name of the input's file.
-    pub input: &'a str,
+    /// The name of the input's file; none of standard input.
+    pub input: Option<&'a str>,
     /// Whether the rest of a log is read where its judging ends early.
     pub rest: Rest,
 }
 
 impl<'a, P> Given<'a, P> {
+    /// What the words and the terminals say of an input, the rest of which is not read. The label is its name, where there are several.
+    pub(crate) fn of(
+        rt: &'a P,
+        terminals: Terminals,
+        words: &'a [String],
+        label: Option<&'a str>,
+        input: Option<&'a str>,
+    ) -> Given<'a, P> {
+        Given {
+            place: Place {
+                rt,
+                label,
+                is_terminal: terminals.error,
+                progress: None,
+            },
+            terminals,
+            words,
+            input,
+            rest: Rest::Unread,
+        }
+    }
+
     /// The same, where the rest of a log is read or not.
     pub(crate) fn with_rest(&self, rest: Rest) -> Given<'a, P> {
         Given {

@@ -2,9 +2,8 @@
 
 ghost use Rattle.std.specs.Prelude.{◌≤◌};
 
-use crate::asked_input::{Given, STANDARD_INPUT, status_of_asked};
+use crate::asked_input::{Given, status_of_asked};
 use crate::first_bytes::{FirstBytes, look};
-use crate::place::Place;
 use crate::program::{USAGE_STATUS, report_usage};
 use crate::terminals::Terminals;
 use crate::waiting::Waiting;
@@ -17,6 +16,9 @@ use std::sync::Wait;
 use std::thread::Threads;
 use std::time::Clock;
 use std::{fs, io};
+
+// The name of standard input among files.
+const STANDARD_INPUT: &str = "-";
 
 // The status after a file that could not be read.
 const UNREAD_STATUS: u8 = 3;
@@ -47,18 +49,8 @@ where
         let Some((name, later)) = next_file(rest) else {
             break;
         };
-        let given = Given {
-            place: Place {
-                rt,
-                label: if is_many { Some(name) } else { None },
-                is_terminal: terminals.error,
-                progress: None,
-            },
-            terminals,
-            words,
-            input: name,
-            rest: Rest::Unread,
-        };
+        let label = if is_many { Some(name) } else { None };
+        let given = Given::of(rt, terminals, words, label, file_named(name));
         worst = worse(worst, status_on_file(&given, &choices, name));
         rest = later;
     }
@@ -106,6 +98,15 @@ impl Choices {
             return self.memory;
         }
         self.log
+    }
+}
+
+// The file of this name; none for standard input.
+fn file_named(name: &str) -> Option<&str> {
+    if name == STANDARD_INPUT {
+        None
+    } else {
+        Some(name)
     }
 }
 

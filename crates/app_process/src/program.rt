@@ -3,7 +3,7 @@ ghost use Rattle.std.specs.Prelude.{◌≡◌, ◌≤◌, ◌⊎◌};
 ghost use Rattle.app_engine.specs.Failure.{status_for};
 ghost use Rattle.app_command_line.specs.CommandLine.{IsUsageStatus};
 
-use crate::asked_input::{Given, STANDARD_INPUT, status_of_asked};
+use crate::asked_input::{Given, status_of_asked};
 use crate::build_record::print_gate;
 use crate::file_inputs::status_on_files;
 use crate::place::Place;
@@ -11,7 +11,6 @@ use crate::refused::reason_of;
 use crate::terminals::Terminals;
 use app_command_line::{Detail, Sight, Usage, command_of, fault_with, next_file};
 use app_engine::{RunError, fault_line, status_of};
-use app_logs::Rest;
 use show_refusals::InputForm;
 use std::rt::{Env, Files};
 use std::sync::Wait;
@@ -43,8 +42,9 @@ where
 
 // Does what some words order.
 fn status_of_words<
+    'w,
     P: Env + Files + Threads + Wait + Sync + AllocGlobal + Input + Print + Eprint + Clock,
->(rt: &P, terminals: Terminals, words: &[String]) -> u8
+>(rt: &'w P, terminals: Terminals, words: &'w [String]) -> u8
 where
     P::Reader: Send,
     P::File: Send,
@@ -57,18 +57,7 @@ where
     }
     match command_of(rt.alloc(), words, Sight::Unseen) {
         Ok(asked) => {
-            let given = Given {
-                place: Place {
-                    rt,
-                    label: None,
-                    is_terminal: terminals.error,
-                    progress: None,
-                },
-                terminals,
-                words,
-                input: STANDARD_INPUT,
-                rest: Rest::Unread,
-            };
+            let given = Given::of(rt, terminals, words, None, None);
             status_of_asked(&given, rt.reader(), &asked)
         }
         Err(usage) => report_usage(rt, usage),

@@ -2,7 +2,7 @@
 
 ghost use Rattle.std.specs.Prelude.{◌≤◌};
 
-use crate::asked_input::{Given, STANDARD_INPUT, status_by};
+use crate::asked_input::{Given, status_by};
 use crate::progress::Progress;
 use crate::progress_view::ProgressView;
 use app_command_line::{Asked, LogOrder, Order, Task};
@@ -13,13 +13,16 @@ use std::thread::Threads;
 use std::time::Clock;
 use std::{fs, thread};
 
+// Where the system has standard input among its files.
+const STANDARD_INPUT_PATH: &str = "/dev/stdin";
+
 /// What is said of how far the work is, where that was asked for or somebody may look at a terminal and does not type the input there.
 pub(crate) fn view_of<'a, P: Files>(
     given: &Given<'a, P>,
     asked: &Asked,
 ) -> Option<ProgressView<'a>> {
     let terminals = given.terminals;
-    let is_typed = terminals.input && given.input == STANDARD_INPUT;
+    let is_typed = terminals.input && given.input.is_none();
     if !asked.manner.progress && (!terminals.error || is_typed) {
         return None;
     }
@@ -66,13 +69,8 @@ pub(crate) fn status_shown<
 }
 
 // How many bytes an input has, where it is a plain file.
-fn size_of<P: Files>(rt: &P, input: &str) -> Option<u64> {
-    let path = if input == STANDARD_INPUT {
-        "/dev/stdin"
-    } else {
-        input
-    };
-    match fs::metadata(rt, path) {
+fn size_of<P: Files>(rt: &P, input: Option<&str>) -> Option<u64> {
+    match fs::metadata(rt, input.unwrap_or(STANDARD_INPUT_PATH)) {
         Ok(found) if found.is_file() => Some(found.len()),
         _ => None,
     }
