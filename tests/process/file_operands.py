@@ -8,16 +8,13 @@ go to a file, writes that begin too late in a log, colours, and how much a run a
 is 1 where something failed.
 """
 
-import argparse
 import os
 import pathlib
 import subprocess
-import tempfile
 import threading
 
 import folders  # noqa: F401
-from command_words import with_program
-from counting import end_after
+from in_folder import end_in_folder
 
 ROOT = pathlib.Path(__file__).resolve().parents[2]
 MET = "cc yes\ncm yes\nccv yes\n"
@@ -242,12 +239,5 @@ def cases(program, folder):
         yield from part(runs)
 
 
-def main():
-    given = with_program(argparse.ArgumentParser(description=__doc__, formatter_class=argparse.RawDescriptionHelpFormatter))
-    program = [str(pathlib.Path(given.program[0]).resolve()), *given.program[1:]]
-    with tempfile.TemporaryDirectory() as folder:
-        end_after(cases(program, pathlib.Path(folder)))
-
-
 if __name__ == "__main__":
-    main()
+    end_in_folder(__doc__, cases)

@@ -9,21 +9,17 @@ one a second. Statuses and answers are those of a run that shows nothing. The la
 something failed.
 """
 
-import argparse
 import contextlib
 import itertools
 import os
-import pathlib
 import pty
 import re
 import subprocess
-import tempfile
 import threading
 import time
 
 import folders  # noqa: F401
-from command_words import with_program
-from counting import end_after
+from in_folder import end_in_folder
 
 WIPE = "\r\x1b[K"
 MET = "cc yes\ncm yes\nccv yes\n"
@@ -242,12 +238,5 @@ def cases(program, folder):
         yield from part(runs)
 
 
-def main():
-    given = with_program(argparse.ArgumentParser(description=__doc__, formatter_class=argparse.RawDescriptionHelpFormatter))
-    program = [str(pathlib.Path(given.program[0]).resolve()), *given.program[1:]]
-    with tempfile.TemporaryDirectory() as folder:
-        end_after(cases(program, pathlib.Path(folder)))
-
-
 if __name__ == "__main__":
-    main()
+    end_in_folder(__doc__, cases)
