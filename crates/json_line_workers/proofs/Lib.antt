@@ -2,3 +2,4 @@ mod PlaceLaws
 mod NextLaws
 mod FiledLaws
 pub mod CutLaws
+pub mod CallLaws

@@ -2,11 +2,11 @@
 use Rattle.std.specs.Prelude.{◌≡◌, ◌≢◌, ◌==◌, ◌<◌, ℕ, Bool, true, false, List, [], ◌∷◌, ◌++◌, if◌then◌else◌, Option, None, Some, IfSome, length, drop}
 use Rattle.std.specs.List.{All}
 use Rattle.std.specs.Io.KnownBytes.{Appends}
-use Rattle.json_lines.specs.Lines.{AreAnswered, FirstAreAnswered, IsPartOn, Says, lines_of}
+use Rattle.json_lines.specs.Lines.{AreAnswered, FirstAreAnswered, FirstAreBegun, IsPartOn, Says, lines_of}
 use Rattle.json_lines.specs.Steps.{IsFree}
 use Rattle.json_lines.specs.declared.outcome.Outcome.{Outcome}
 use Rattle.json_lines.specs.declared.fault.Fault.{Fault}
-use Rattle.json_lines.specs.declared.fault.Fault.TheVariants.{Write}
+use Rattle.json_lines.specs.declared.fault.Fault.TheVariants.{Read, Write}
 use Rattle.json_lines.specs.declared.part.Part.{Part}
 use Rattle.json_line_workers.specs.declared.place.Place.{Place}
 
@@ -80,3 +80,5 @@ Serves says most more_says more_most = ((line text : List ℕ) (outcome : Outcom
 pub record IsOutlet (says : Says) (input before now : Option (List ℕ)) (until : Place) (outcome : Outcome) (fault : Option Fault) : Type 0 where
   pub filed : fault ≡ None → IsFiled says input before now until outcome
   pub first : fault ≢ Some Write → FirstAreAnswered says input before now
+  pub begun : FirstAreBegun says input before now
+  pub unread : fault ≢ Some Read

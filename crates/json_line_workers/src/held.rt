@@ -1,5 +1,6 @@
 //! What was read of a stream and is not yet handed out.
-ghost use Rattle.std.specs.Prelude.{◌≡◌, ◌++◌, ◌+◌, ◌≤◌, ℕ, List, [], Option, IfNone, IfSome, OnOk, length};
+ghost use Rattle.std.specs.Prelude.{◌≡◌, ◌++◌, ◌+◌, ◌≤◌, ℕ, List, [], Option, IfErr, IfNone, IfSome, OnOk, length};
+ghost use Rattle.json_line_workers.specs.Calls.{IsBefore};
 ghost use Rattle.json_line_workers.specs.Pieces.{IsCut};
 ghost use Rattle.json_line_workers.specs.Places.{start};
 ghost use Rattle.json_line_workers.specs.Pieces.{Stops};
@@ -51,6 +52,7 @@ impl Held {
         ensures bytes { OnOk result (self.new.bytes.items ≡ self.old.bytes.items ++ bytes.now) }
         ensures cut { OnOk result (IsCut self.new.whole self.new.bytes.items) }
         ensures at { self.new.at ≡ self.old.at }
+        ensures error { IfErr result (λ e. e ≡ Fault.Memory) }
         ensures few { length self.new.bytes.items ≤ length self.old.bytes.items + length bytes.now }
     {
         let before = self.bytes.len();
@@ -64,6 +66,7 @@ impl Held {
     /// Why reading stops here, if it does: whole lines are at hand, or the line that is read has more bytes than are read of a line.
     pub(crate) fn stop(&self, most: usize) -> Option<Stop>
         ensures stop { IfSome result (λ stop. (reader : Option (List ℕ)) → Stops most stop reader self.now) }
+        ensures before { IfSome result IsBefore }
         ensures short { IfNone result (length self.now.bytes.items ≤ most) }
     {
         if self.whole > 0 {

@@ -20,6 +20,22 @@ pub trait Job {
     ghost most: { ℕ };
 }
 
+/// The reader of an input, as it is before anything is read. Each call picks it.
+pub trait ReadFrom<R> {
+    ghost use Rattle.std.specs.Prelude.{Option};
+
+    // The reader, where it is known.
+    ghost reader: { Option R };
+}
+
+/// The writer of answers, as it is before anything is written. Each call picks it.
+pub trait WrittenTo<W> {
+    ghost use Rattle.std.specs.Prelude.{Option};
+
+    // The writer, where it is known.
+    ghost writer: { Option W };
+}
+
 impl Job for Brand {
     ghost use Rattle.std.specs.Prelude.{None, ⊤};
 
@@ -30,4 +46,16 @@ impl Job for Brand {
     ghost before = { None };
 
     ghost most = { 0 };
+}
+
+impl<R> ReadFrom<R> for Brand {
+    ghost use Rattle.std.specs.Prelude.{None};
+
+    ghost reader = { None };
+}
+
+impl<W> WrittenTo<W> for Brand {
+    ghost use Rattle.std.specs.Prelude.{None};
+
+    ghost writer = { None };
 }

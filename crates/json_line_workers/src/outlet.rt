@@ -1,19 +1,19 @@
 //! Writing what several workers answer, in the order of the lines.
-ghost use Rattle.std.specs.Prelude.{◌≡◌, ◌≢◌, ◌<◌, IfErr, IfOk, IfSome, IsErr, length};
-ghost use Rattle.json_lines.specs.Lines.{AllAreAnswered, FirstAreAnswered};
+ghost use Rattle.std.specs.Prelude.{◌≡◌, ◌≢◌, ◌<◌, Err, IfErr, IfOk, IfSome, IsErr, OnErr, length};
+ghost use Rattle.json_lines.specs.Lines.{AllAreAnswered, FirstAreAnswered, FirstAreBegun};
+ghost use Rattle.json_lines.specs.WriteCalls.{FailsToTake, IsPassedOn};
 ghost use Rattle.json_line_workers.specs.Places.{IsEnd};
 
-use crate::job::Job;
+use crate::job::{Job, WrittenTo};
 use crate::piece::Done;
 use crate::place::Place;
-use json_lines::{Fault, Outcome, write_whole};
+use json_lines::{Fault, MAX_WRITE_CALLS, Outcome, Sink, write_whole};
 use std::alloc::Global;
-use std::io::Write;
 use std::marker::{Model, PhantomData};
 
 /// What is written, under a lock.
 #[derive(Drop)]
-pub struct Outlet<J: Job, W: Write + Drop> {
+pub struct Outlet<J: Job + WrittenTo<W>, W: Sink + Drop> {
     writer: W,
     until: Place,
     outcome: Outcome,
@@ -22,22 +22,25 @@ pub struct Outlet<J: Job, W: Write + Drop> {
     of: PhantomData<J>,
 }
 
-impl<J: Job, W: Write + Drop> Model for Outlet<J, W> {
-    ghost use Rattle.std.specs.Prelude.{Option};
+impl<J: Job + WrittenTo<W>, W: Sink + Drop> Model for Outlet<J, W> {
+    ghost use Rattle.std.specs.Prelude.{IfSome, Option};
     ghost use Rattle.json_lines.specs.declared.fault.Fault.{Fault as AnyFault};
+    ghost use Rattle.json_line_workers.specs.Calls.{IsWritten};
     ghost use Rattle.json_line_workers.specs.Places.{IsOutlet};
 
     ghost Value = { Option AnyFault };
 
     ghost view = { λ s. s.fault };
 
-    ghost invariant = { λ s. IsOutlet J.says J.input J.before (W.contents s.writer) s.until s.outcome s.fault };
+    ghost invariant = { λ s. IsOutlet J.says J.input J.before (W.contents s.writer) s.until s.outcome s.fault
+        × IfSome J.writer (λ first. IsWritten W.called first s.writer s.fault) };
 }
 
-impl<J: Job, W: Write + Drop> Outlet<J, W> {
+impl<J: Job + WrittenTo<W>, W: Sink + Drop> Outlet<J, W> {
     /// Nothing is written yet.
     pub(crate) fn new(alloc: Global, writer: W) -> Outlet<J, W>
-        requires { W.contents writer ≡ J.before }
+        requires before { W.contents writer ≡ J.before }
+        requires first { IfSome J.writer (λ first. first ≡ writer) }
     {
         Outlet {
             writer,
@@ -85,15 +88,14 @@ impl<J: Job, W: Write + Drop> Outlet<J, W> {
         if !self.until.is(done.from) {
             return;
         }
-        self.fault = Some(Fault::Write);
         if write_whole(&mut self.writer, done.part.text.as_slice()).is_err() {
+            self.fault = Some(Fault::Write);
             return;
         }
         match done.part.outcome {
             Ok(one) => {
                 self.until = done.until;
                 self.outcome = self.outcome.worse(one);
-                self.fault = None;
             }
             Err(fault) => {
                 self.fault = Some(fault);
@@ -101,12 +103,19 @@ impl<J: Job, W: Write + Drop> Outlet<J, W> {
         }
     }
 
-    /// The writer, and the outcome of all, where the input ends at that place.
+    /// The writer, and the outcome of all, where the input ends at that place. Where answers are missing without a fault, it says want of
+    /// memory.
     pub(crate) fn ended(self, end: Result<Place, Fault>) -> (W, Result<Outcome, Fault>)
-        requires { IfOk end (IsEnd J.input) }
+        requires end { IfOk end (IsEnd J.input) }
+        requires error { IfErr end (λ e. e ≢ Fault.Write) }
         ensures answered { IfOk result.1 (AllAreAnswered J.says J.input J.before (W.contents result.0)) }
         ensures faulted { IfErr result.1 (λ e. e ≢ Fault.Write → FirstAreAnswered J.says J.input J.before (W.contents result.0)) }
         ensures unended { IfErr end (λ e. IsErr result.1) }
+        ensures begun { OnErr result.1 (FirstAreBegun J.says J.input J.before (W.contents result.0)) }
+        ensures read_fault { result.1 ≡ Err Fault.Read → end ≡ Err Fault.Read }
+        ensures passed_on { result.1 ≢ Err Fault.Write → IfSome J.writer (λ first. IsPassedOn W.called first result.0) }
+        ensures write_fault { result.1 ≡ Err Fault.Write
+            → IfSome J.writer (λ first. FailsToTake W.called MAX_WRITE_CALLS first result.0) }
     {
         let Outlet {
             writer,
@@ -123,7 +132,7 @@ impl<J: Job, W: Write + Drop> Outlet<J, W> {
                 if until.is(place) {
                     return (writer, Ok(outcome));
                 }
-                (writer, Err(Fault::Read))
+                (writer, Err(Fault::Memory))
             }
             Err(fault) => (writer, Err(fault)),
         }

@@ -1,7 +1,9 @@
 //! Reading what comes next of a stream.
-ghost use Rattle.std.specs.Prelude.{◌≡◌, ◌<◌, ◌≤◌, ◌+◌, [], true, false, IfOk, OnOk, length, vec_len, drop};
+ghost use Rattle.std.specs.Prelude.{◌≡◌, ◌<◌, ◌≤◌, ◌+◌, [], true, false, IfErr, IfOk, OnOk, length, vec_len, drop};
 ghost use Rattle.std.specs.Io.KnownBytes.{IsAtEnd};
+ghost use Rattle.json_lines.specs.ReadCalls.{CallOutcome, IsFurther};
 ghost use Rattle.json_lines.specs.Steps.{IsFree, Takes};
+ghost use Rattle.json_line_workers.specs.Calls.{FillsBy, HandsOutBy, MoreBy, PassesBy};
 ghost use Rattle.json_line_workers.specs.Pieces.{HandsOut, IsCut, IsNext, IsReading, Passes, Stops, HandsOutLong};
 
 use crate::held::{Held, Stop};
@@ -25,7 +27,8 @@ pub struct Next {
 /// Reads until lines are at hand, and returns those that are whole, or all at the end; or that a line is too long; or passes
 /// over the rest of such a line.
 ///
-/// It fails if memory runs out, or the reader fails, or no line ended in [`MAX_READ_CALLS`] calls.
+/// It fails if memory runs out, or the reader fails, or no line ended in [`MAX_READ_CALLS`] calls. More than 2^64 bytes count as want of
+/// memory.
 pub(crate) fn next_lines<J: Job, R: Source>(
     alloc: Global,
     reader: &mut R,
@@ -37,6 +40,8 @@ pub(crate) fn next_lines<J: Job, R: Source>(
     requires reading { IsReading J.input held.old (R.remaining reader.old) }
     requires few { length held.old.bytes.items ≤ most + length chunk.old }
     ensures next { IfOk result (IsNext J.input most held.old.at held.new (R.remaining reader.new)) }
+    ensures further { IsFurther (R.remaining reader.old) (R.remaining reader.new) }
+    ensures calls { HandsOutBy R.called result reader.old reader.new }
     ensures few { length held.new.bytes.items ≤ most + length chunk.old }
 {
     if held.at.inside {
@@ -58,6 +63,8 @@ fn whole_lines<J: Job, R: Source>(
     requires outside { held.old.at.inside ≡ false }
     requires few { length held.old.bytes.items ≤ most + length chunk.old }
     ensures next { IfOk result (IsNext J.input most held.old.at held.new (R.remaining reader.new)) }
+    ensures further { IsFurther (R.remaining reader.old) (R.remaining reader.new) }
+    ensures calls { HandsOutBy R.called result reader.old reader.new }
     ensures few { length held.new.bytes.items ≤ most + length chunk.old }
 {
     match fill(reader, chunk, held, most)? {
@@ -85,6 +92,8 @@ fn fill<R: Source>(
     requires few { length held.old.bytes.items ≤ most + length chunk.old }
     ensures taken { OnOk result (Takes (R.remaining reader.old) (R.remaining reader.new) held.old.bytes.items held.new.bytes.items) }
     ensures stop { IfOk result (λ stop. Stops most stop (R.remaining reader.new) held.new) }
+    ensures further { IsFurther (R.remaining reader.old) (R.remaining reader.new) }
+    ensures calls { FillsBy R.called result reader.old reader.new }
     ensures cut { OnOk result (IsCut held.new.whole held.new.bytes.items) }
     ensures at { OnOk result (held.new.at ≡ held.old.at) }
     ensures few { length held.new.bytes.items ≤ most + length chunk.old }
@@ -106,6 +115,8 @@ fn read_more<R: Source>(reader: &mut R, chunk: &mut [u8], held: &mut Held) -> Re
     requires cut { IsCut held.old.whole held.old.bytes.items }
     ensures taken { OnOk result (Takes (R.remaining reader.old) (R.remaining reader.new) held.old.bytes.items held.new.bytes.items) }
     ensures end { IfOk result (λ found. found ≡ true → IsAtEnd (R.remaining reader.new)) }
+    ensures further { IsFurther (R.remaining reader.old) (R.remaining reader.new) }
+    ensures call { (outcome : CallOutcome) × R.called reader.old outcome reader.new × MoreBy outcome result }
     ensures cut { OnOk result (IsCut held.new.whole held.new.bytes.items) }
     ensures at { held.new.at ≡ held.old.at }
     ensures few { length held.new.bytes.items ≤ length held.old.bytes.items + length chunk.old }
@@ -125,12 +136,13 @@ fn hand_out(alloc: Global, held: &mut Held, count: usize, last: bool) -> Result<
     requires free { IsFree (drop count held.old.bytes.items) }
     requires outside { held.old.at.inside ≡ false }
     ensures handed { IfOk result (HandsOut count last held.old held.new) }
+    ensures error { IfErr result (λ e. e ≡ Fault.Memory) }
     ensures few { length held.new.bytes.items ≤ length held.old.bytes.items }
 {
     let mut bytes = Vec::new(alloc);
     bytes.extend_from_slice(&held.bytes[..count])?;
     let Some(at) = held.at.at.checked_add(count as u64) else {
-        return Err(Fault::Read);
+        return Err(Fault::Memory);
     };
     held.at.at = at;
     drop_front(&mut held.bytes, count);
@@ -145,11 +157,12 @@ fn hand_out(alloc: Global, held: &mut Held, count: usize, last: bool) -> Result<
 // Returns that a line is too long, and lets go of its beginning.
 fn hand_out_long(alloc: Global, held: &mut Held) -> Result<Next, Fault>
     ensures handed { IfOk result (HandsOutLong held.old held.new) }
+    ensures error { IfErr result (λ e. e ≡ Fault.Memory) }
     ensures few { length held.new.bytes.items ≤ length held.old.bytes.items }
 {
     let count = held.bytes.len();
     let Some(at) = held.at.at.checked_add(count as u64) else {
-        return Err(Fault::Read);
+        return Err(Fault::Memory);
     };
     held.at.at = at;
     held.at.inside = true;
@@ -174,11 +187,13 @@ fn rest_of_line<J: Job, R: Source>(
     requires reading { IsReading J.input held.old (R.remaining reader.old) }
     requires inside { held.old.at.inside ≡ true }
     ensures next { IfOk result (IsNext J.input most held.old.at held.new (R.remaining reader.new)) }
+    ensures further { IsFurther (R.remaining reader.old) (R.remaining reader.new) }
+    ensures calls { HandsOutBy R.called result reader.old reader.new }
     ensures few { length held.new.bytes.items ≤ length chunk.old }
 {
     let (count, last) = pass_over(reader, chunk, held)?;
     let Some(at) = held.at.at.checked_add(count) else {
-        return Err(Fault::Read);
+        return Err(Fault::Memory);
     };
     held.at.at = at;
     held.at.inside = false;
@@ -200,6 +215,8 @@ fn pass_over<R: Source>(
     requires nothing { held.old.bytes.items ≡ [] }
     requires cut { IsCut held.old.whole held.old.bytes.items }
     ensures passed { IfOk result (λ r. Passes (R.remaining reader.old) (R.remaining reader.new) r.0 held.new.bytes.items r.1) }
+    ensures further { IsFurther (R.remaining reader.old) (R.remaining reader.new) }
+    ensures calls { PassesBy R.called result reader.old reader.new }
     ensures cut { OnOk result (IsCut held.new.whole held.new.bytes.items) }
     ensures at { OnOk result (held.new.at ≡ held.old.at) }
     ensures few { length held.new.bytes.items ≤ length chunk.old }
@@ -221,7 +238,8 @@ fn pass_over<R: Source>(
 
 // So many more.
 fn more_than(count: u64, more: usize) -> Result<u64, Fault>
-    ensures { IfOk result (λ sum. sum ≡ count + more) }
+    ensures sum { IfOk result (λ sum. sum ≡ count + more) }
+    ensures error { IfErr result (λ e. e ≡ Fault.Memory) }
 {
-    count.checked_add(more as u64).ok_or(Fault::Read)
+    count.checked_add(more as u64).ok_or(Fault::Memory)
 }

@@ -1,16 +1,17 @@
 //! Answering a stream by workers that live as long as it does.
-ghost use Rattle.std.specs.Prelude.{◌≡◌, ◌≢◌, ◌<◌, IfErr, IfOk, OnOk, vec_len};
+ghost use Rattle.std.specs.Prelude.{◌≡◌, ◌≢◌, ◌<◌, Err, IfErr, IfOk, IfSome, OnErr, OnOk, vec_len};
 ghost use Rattle.std.specs.Io.KnownBytes.{IsAtEnd};
-ghost use Rattle.json_lines.specs.Lines.{AllAreAnswered, FirstAreAnswered};
+ghost use Rattle.json_lines.specs.Lines.{AllAreAnswered, FirstAreAnswered, FirstAreBegun};
+ghost use Rattle.json_lines.specs.ReadCalls.{CallsOnceAtMost, EndsBy, FindsNoEnd, IsEnd, IsFurther, ReadsOn};
+ghost use Rattle.json_lines.specs.WriteCalls.{FailsToTake, IsPassedOn};
 ghost use Rattle.json_line_workers.specs.Places.{Serves};
 
 use crate::intake::Intake;
-use crate::job::Job;
+use crate::job::{Job, ReadFrom, WrittenTo};
 use crate::outlet::Outlet;
 use crate::piece::Done;
-use json_lines::{Fault, LineHandler, Outcome, Source};
+use json_lines::{Fault, LineHandler, MAX_READ_CALLS, MAX_WRITE_CALLS, Outcome, Sink, Source};
 use std::alloc::Global;
-use std::io::Write;
 use std::marker::Brand;
 use std::sync::{Condvar, Mutex, Wait};
 use std::thread::{Threads, map_indices};
@@ -29,8 +30,10 @@ const AHEAD: usize = 16;
 /// that has more bytes than the handler reads is answered as too long as soon as that is known, and its rest is passed over.
 ///
 /// It fails if memory runs out, or the reader or the writer fails, or no line ended in [`MAX_READ_CALLS`](lines::MAX_READ_CALLS) read
-/// calls in a row. What was written is then the answers to some first lines, unless the writer failed. If the writer fails, or memory
-/// runs out for an answer, while a worker waits for input, it returns only once that read call does.
+/// calls in a row. What was written is then the answers to some first lines, or a beginning of them if the writer failed. A read fault
+/// comes only where a read call failed or those calls were made, and a write fault only where a write call failed. No read call is made
+/// after the end or after one that failed. If the writer fails, or memory runs out for an answer, while a worker waits for input, it
+/// returns only once that read call does.
 ///
 /// It waits: in read and write calls, for locks that other workers have, and, where 16 answers for each worker wait for those before
 /// them, for these. The contract holds if it returns.
@@ -41,7 +44,7 @@ const AHEAD: usize = 16;
 pub fn answer_lines<
     T: Threads + Wait + Sync,
     R: Source + Drop + Send,
-    W: Write + Drop + Send,
+    W: Sink + Drop + Send,
     C: LineHandler + Sync,
 >(
     rt: &T,
@@ -56,6 +59,16 @@ pub fn answer_lines<
     ensures end { OnOk result.2 (IsAtEnd (R.remaining result.0)) }
     ensures faulted { IfErr result.2 (λ e. e ≢ Fault.Write
         → FirstAreAnswered (C.says handler.now) (R.remaining reader) (W.contents writer) (W.contents result.1)) }
+    ensures begun { OnErr result.2
+        (FirstAreBegun (C.says handler.now) (R.remaining reader) (W.contents writer) (W.contents result.1)) }
+    ensures further { IsFurther (R.remaining reader) (R.remaining result.0) }
+
+    // Whatever the reader and the writer report of their calls.
+    ensures calls { ReadsOn R.called (CallsOnceAtMost R.called) reader result.0 }
+    ensures end_found { OnOk result.2 (ReadsOn R.called (EndsBy R.called MAX_READ_CALLS IsEnd) reader result.0) }
+    ensures read_fault { result.2 ≡ Err Fault.Read → ReadsOn R.called (FindsNoEnd R.called MAX_READ_CALLS) reader result.0 }
+    ensures passed_on { result.2 ≢ Err Fault.Write → IsPassedOn W.called writer result.1 }
+    ensures write_fault { result.2 ≡ Err Fault.Write → FailsToTake W.called MAX_WRITE_CALLS writer result.1 }
 {
     match chunk_of_zeros(alloc) {
         Ok(chunk) => {
@@ -68,16 +81,17 @@ pub fn answer_lines<
 // What read calls write to.
 fn chunk_of_zeros(alloc: Global) -> Result<Vec<u8>, Fault>
     ensures room { IfOk result (λ chunk. 0 < vec_len chunk) }
+    ensures error { IfErr result (λ e. e ≡ Fault.Memory) }
 {
     Ok(vec![in alloc; 0; CHUNK_BYTES]?)
 }
 
 // Answers a stream, by read calls that write to this chunk.
 fn answer_as<
-    J: Job + Send + Sync,
+    J: Job + ReadFrom<R> + WrittenTo<W> + Send + Sync,
     T: Threads + Wait + Sync,
     R: Source + Drop + Send,
-    W: Write + Drop + Send,
+    W: Sink + Drop + Send,
     C: LineHandler + Sync,
 >(
     rt: &T,
@@ -92,9 +106,21 @@ fn answer_as<
     requires serves { Serves (C.says handler.now) (C.most handler.now) J.says J.most }
     requires input { R.remaining reader ≡ J.input }
     requires before { W.contents writer ≡ J.before }
+    requires reader { IfSome J.reader (λ first. first ≡ reader) }
+    requires writer { IfSome J.writer (λ first. first ≡ writer) }
     ensures answered { IfOk result.2 (AllAreAnswered J.says J.input J.before (W.contents result.1)) }
     ensures end { OnOk result.2 (IsAtEnd (R.remaining result.0)) }
     ensures faulted { IfErr result.2 (λ e. e ≢ Fault.Write → FirstAreAnswered J.says J.input J.before (W.contents result.1)) }
+    ensures begun { OnErr result.2 (FirstAreBegun J.says J.input J.before (W.contents result.1)) }
+    ensures further { IsFurther J.input (R.remaining result.0) }
+    ensures calls { IfSome J.reader (λ first. ReadsOn R.called (CallsOnceAtMost R.called) first result.0) }
+    ensures end_found { OnOk result.2
+        (IfSome J.reader (λ first. ReadsOn R.called (EndsBy R.called MAX_READ_CALLS IsEnd) first result.0)) }
+    ensures read_fault { result.2 ≡ Err Fault.Read
+        → IfSome J.reader (λ first. ReadsOn R.called (FindsNoEnd R.called MAX_READ_CALLS) first result.0) }
+    ensures passed_on { result.2 ≢ Err Fault.Write → IfSome J.writer (λ first. IsPassedOn W.called first result.1) }
+    ensures write_fault { result.2 ≡ Err Fault.Write
+        → IfSome J.writer (λ first. FailsToTake W.called MAX_WRITE_CALLS first result.1) }
 {
     let intake: Mutex<Intake<J, R>> = Mutex::new(Intake::new(
         alloc,
@@ -126,7 +152,13 @@ fn answer_as<
 }
 
 // Takes lines and answers them until there are no more, or there was a fault.
-fn work<J: Job, T: Threads + Wait + Sync, R: Source + Drop, W: Write + Drop, C: LineHandler + Sync>(
+fn work<
+    J: Job + ReadFrom<R> + WrittenTo<W>,
+    T: Threads + Wait + Sync,
+    R: Source + Drop,
+    W: Sink + Drop,
+    C: LineHandler + Sync,
+>(
     rt: &T,
     alloc: Global,
     intake: &Mutex<Intake<J, R>>,
@@ -150,7 +182,7 @@ fn work<J: Job, T: Threads + Wait + Sync, R: Source + Drop, W: Write + Drop, C: 
 }
 
 // Hands answers over. It waits while too many wait for those before them, and these are not next. Returns whether there was no fault.
-fn hand_over<J: Job, T: Wait, W: Write + Drop>(
+fn hand_over<J: Job + WrittenTo<W>, T: Wait, W: Sink + Drop>(
     rt: &T,
     outlet: &Mutex<Outlet<J, W>>,
     moved: &Condvar,

@@ -5,3 +5,4 @@ pub mod FindingLaws
 pub mod ReadCallLaws
 pub mod AnswerLaws
 pub mod TakingLaws
+pub mod WriteCallLaws

@@ -3,10 +3,12 @@ use Rattle.std.specs.Prelude.{◌≡◌, ◌==◌, ◌||◌, Bool, ℕ, List, []
 use Rattle.std.specs.Io.KnownBytes.{Appends}
 use Rattle.std.specs.List.{list_all}
 use Rattle.json_lines.specs.declared.fault.Fault.{Fault}
+use Rattle.json_lines.specs.declared.fault.Fault.TheVariants.{Memory}
 use Rattle.json_lines.specs.declared.outcome.Outcome.{Outcome}
 use Rattle.json_lines.specs.declared.outcome.Outcome.TheVariants.{Met}
 use Rattle.json_lines.specs.declared.part.Part.{Part}
 use Rattle.json_lines.specs.Outcomes.{worse}
+use Rattle.json_lines.specs.WriteCalls.{AppendsFront}
 
 -- a byte before the first of some lines, or a line of its own where there is none
 abbrev pub begun_with : ℕ → List (List ℕ) → List (List ℕ)
@@ -54,6 +56,15 @@ pub record FirstAreAnswered (says : Says) (reader before after : Option (List �
   pub answered : AreAnswered says lines text outcome
   pub written : Appends before after text
 
+-- a beginning of the answers to some first lines of what a reader had stands behind what a writer held
+pub record FirstAreBegun (says : Says) (reader before after : Option (List ℕ)) : Type 0 where
+  pub lines : List (List ℕ)
+  pub text : List ℕ
+  pub outcome : Outcome
+  pub first : IfSome reader (λ bytes. (others : List (List ℕ)) × (lines_of bytes ≡ lines ++ others))
+  pub answered : AreAnswered says lines text outcome
+  pub begun : AppendsFront before after text
+
 -- the text answers the lines before these
 pub record Front (says : Says) (all rest : List (List ℕ)) (text : List ℕ) (outcome : Outcome) : Type 0 where
   pub lines : List (List ℕ)
@@ -64,10 +75,10 @@ pub record Front (says : Says) (all rest : List (List ℕ)) (text : List ℕ) (o
 abbrev pub FirstOf : Says → List (List ℕ) → List ℕ → Type 0
 FirstOf says all text = (rest : List (List ℕ)) × (outcome : Outcome) × Front says all rest text outcome
 
--- the text answers some lines, or the first of them where there was a fault
+-- the text answers some lines, or the first of them where memory ran out
 abbrev pub AnswersAs : Says → List (List ℕ) → Result Outcome Fault → List ℕ → Type 0
 AnswersAs says lines (Ok outcome) text = AreAnswered says lines text outcome
-AnswersAs says lines (Err fault) text = FirstOf says lines text
+AnswersAs says lines (Err fault) text = (fault ≡ Memory) × FirstOf says lines text
 
 -- what is made of some lines
 abbrev pub IsPartOn : Says → List (List ℕ) → Part → Type 0

@@ -1,5 +1,5 @@
 //! Answering lines one after the other.
-ghost use Rattle.std.specs.Prelude.{◌≡◌, ◌∷◌, ◌<◌, [], length, IfOk, OnErr};
+ghost use Rattle.std.specs.Prelude.{◌≡◌, ◌∷◌, ◌<◌, [], length, IfErr, IfOk, OnErr};
 ghost use Rattle.json_lines.specs.Lines.{AreAnswered, FirstOf, IsPartOn, lines_of};
 
 use crate::fault::Fault;
@@ -32,6 +32,7 @@ fn append_answers<C: LineHandler>(
     requires { text.old.items ≡ [] }
     ensures all { IfOk result (AreAnswered (C.says handler.now) (lines_of bytes.now) text.new.items) }
     ensures first { OnErr result (FirstOf (C.says handler.now) (lines_of bytes.now) text.new.items) }
+    ensures error { IfErr result (λ e. e ≡ Fault.Memory) }
 {
     let mut rest = bytes;
     let mut outcome = Outcome::Met;

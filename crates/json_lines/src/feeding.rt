@@ -1,7 +1,6 @@
 //! Looking for the end of a line.
 ghost use Rattle.std.specs.Prelude.{◌≡◌, ◌+◌, ◌<◌, ◌≤◌, ◌⊎◌, ℕ, List, Option, IfErr, IfOk, IfNone, IfSome, OnErr, length};
-ghost use Rattle.json_lines.specs.ReadCalls.{CallsAtMost};
-ghost use Rattle.json_lines.specs.Steps.{EndsIn, FindsEnd, IsFree, IsStreamOver, TakesSome};
+ghost use Rattle.json_lines.specs.Steps.{EndsIn, FindsEnd, IsBefore, IsFree, IsStreamOver, LooksBy, TakesSome};
 
 use crate::fault::Fault;
 use crate::read_call::{MAX_READ_CALLS, read_once};
@@ -24,6 +23,7 @@ fn end_at(index: usize, most: usize) -> LineEnd
     ensures feed { index ≤ most → result ≡ LineEnd.Feed index }
     ensures long { most < index → result ≡ LineEnd.TooLong }
     ensures within { (reader : Option (List ℕ)) → IsStreamOver reader result }
+    ensures before { IsBefore result }
 {
     if index <= most {
         LineEnd::Feed(index)
@@ -36,6 +36,7 @@ fn end_at(index: usize, most: usize) -> LineEnd
 pub(crate) fn first_end(bytes: &[u8], most: usize) -> Option<LineEnd>
     ensures found { IfSome result (EndsIn most bytes.now) }
     ensures within { IfSome result (λ e. (reader : Option (List ℕ)) → IsStreamOver reader e) }
+    ensures before { IfSome result IsBefore }
     ensures free { IfNone result (IsFree bytes.now) }
     ensures short { IfNone result (length bytes.now ≤ most) }
 {
@@ -64,10 +65,10 @@ pub(crate) fn read_to_end<R: Source>(
     requires free { IsFree bytes.old.items }
     requires short { length bytes.old.items ≤ most }
     ensures found { IfOk result (FindsEnd most (R.remaining reader.old) (R.remaining reader.new) bytes.old.items bytes.new.items) }
-    ensures kept { OnErr result (TakesSome (R.remaining reader.old) bytes.old.items bytes.new.items) }
+    ensures kept { OnErr result (TakesSome (R.remaining reader.old) (R.remaining reader.new) bytes.old.items bytes.new.items) }
     ensures error { IfErr result (λ e. (e ≡ Fault.Memory) ⊎ (e ≡ Fault.Read)) }
     ensures few { length bytes.new.items ≤ most + length chunk.old }
-    ensures calls { CallsAtMost R.called MAX_READ_CALLS reader.old reader.new }
+    ensures calls { LooksBy R.called MAX_READ_CALLS result reader.old reader.new }
 {
     for _ in 0..MAX_READ_CALLS {
         let Some(count) = read_once(reader, chunk)? else {

@@ -1,5 +1,5 @@
 //! Who answers lines.
-ghost use Rattle.std.specs.Prelude.{◌≡◌, ℕ, List, IfOk, OnErr};
+ghost use Rattle.std.specs.Prelude.{◌≡◌, ℕ, List, IfErr, IfOk, OnErr};
 ghost use Rattle.json_lines.specs.declared.outcome.Outcome.{Outcome as AnyOutcome};
 ghost use Rattle.json_lines.specs.LineHandlers.{AppendsAnswer, SaysOfLonger};
 
@@ -24,7 +24,7 @@ pub trait LineHandler {
 
     /// Appends the answer to a line, which may be of any length, and a line feed, and returns the outcome.
     ///
-    /// JSON may be read in the scratch, which one line after the other uses. After an error the text is as it was.
+    /// JSON may be read in the scratch, which one line after the other uses. It fails for want of memory alone, and then the text is as it was.
     fn answer(
         &self,
         scratch: &mut Scratch<Global>,
@@ -32,12 +32,14 @@ pub trait LineHandler {
         text: &mut Vec<u8>,
     ) -> Result<Outcome, Fault>
         ensures answered { IfOk result (AppendsAnswer (says self.now line.now) text.old.items text.new.items) }
-        ensures unchanged { OnErr result (text.new.items ≡ text.old.items) };
+        ensures unchanged { OnErr result (text.new.items ≡ text.old.items) }
+        ensures error { IfErr result (λ e. e ≡ Fault.Memory) };
 
     /// Appends the answer to every line that has more bytes than are read, and a line feed, and returns the outcome.
     ///
-    /// After an error the text is as it was.
+    /// It fails for want of memory alone, and then the text is as it was.
     fn answer_long(&self, text: &mut Vec<u8>) -> Result<Outcome, Fault>
         ensures answered { IfOk result (AppendsAnswer (SaysOfLonger (says self.now) (most self.now)) text.old.items text.new.items) }
-        ensures unchanged { OnErr result (text.new.items ≡ text.old.items) };
+        ensures unchanged { OnErr result (text.new.items ≡ text.old.items) }
+        ensures error { IfErr result (λ e. e ≡ Fault.Memory) };
 }

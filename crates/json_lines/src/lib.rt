@@ -13,6 +13,7 @@ mod line_reader;
 mod outcome;
 mod part;
 mod read_call;
+mod sink;
 mod source;
 mod writing;
 
@@ -26,5 +27,6 @@ pub use line_reader::LineReader;
 pub use outcome::Outcome;
 pub use part::Part;
 pub use read_call::{MAX_READ_CALLS, read_once};
+pub use sink::Sink;
 pub use source::Source;
-pub use writing::write_whole;
+pub use writing::{MAX_WRITE_CALLS, write_whole};

@@ -1,8 +1,8 @@
 //! Reading a stream line by line.
 ghost use Rattle.std.specs.Prelude.{◌≡◌, ◌+◌, ◌≤◌, ◌⊎◌, ℕ, List, Option, [], IfErr, IfOk, OnErr, length};
 ghost use Rattle.json_lines.specs.LineReaders.{FindsNext, IsFirst, IsOver};
-ghost use Rattle.json_lines.specs.ReadCalls.{CallsAtMost};
-ghost use Rattle.json_lines.specs.Steps.{EndsIn, IsStreamOver, TakesSome};
+ghost use Rattle.json_lines.specs.ReadCalls.{FindsBy};
+ghost use Rattle.json_lines.specs.Steps.{EndsIn, IsFoundFor, IsStreamOver, TakesSome};
 
 use crate::dropping::drop_front;
 use crate::fault::Fault;
@@ -74,11 +74,11 @@ impl LineReader {
     /// was read before. O(n) for n bytes that are read, in all calls together.
     pub fn next<R: Source>(&mut self, reader: &mut R) -> Result<Found, Fault>
         ensures found { IfOk result (FindsNext (R.remaining reader.old) (R.remaining reader.new) self.old self.new) }
-        ensures kept { OnErr result (TakesSome (R.remaining reader.old) self.old.held self.new.held) }
+        ensures kept { OnErr result (TakesSome (R.remaining reader.old) (R.remaining reader.new) self.old.held self.new.held) }
         ensures same { OnErr result ((self.new.line ≡ []) × (self.new.most ≡ self.old.most)) }
         ensures error { IfErr result (λ e. (e ≡ Fault.Memory) ⊎ (e ≡ Fault.Read)) }
         ensures few { length self.new.line + length self.new.held ≤ self.new.most + CHUNK_BYTES }
-        ensures calls { CallsAtMost R.called MAX_READ_CALLS reader.old reader.new }
+        ensures calls { FindsBy R.called MAX_READ_CALLS result reader.old reader.new }
     {
         self.start = self.at;
         self.end = self.at;
@@ -103,6 +103,7 @@ impl LineReader {
         requires { EndsIn self.old.most self.old.held end }
         ensures first { IsFirst self.old.held self.new result }
         ensures over { (reader : Option (List ℕ)) → IsStreamOver reader end → IsOver reader result }
+        ensures as_end { IsFoundFor end result }
         ensures most { self.new.most ≡ self.old.most }
         ensures few { length self.new.line + length self.new.held ≤ self.new.most + CHUNK_BYTES }
     {

@@ -1,7 +1,8 @@
 //! Single read calls.
-ghost use Rattle.std.specs.Prelude.{◌≡◌, ◌<◌, IfErr, IfOk, length};
-ghost use Rattle.json_lines.specs.ReadCalls.{CallsOnce};
-ghost use Rattle.json_lines.specs.Steps.{Gives};
+ghost use Rattle.std.specs.Prelude.{◌≡◌, ◌<◌, IfErr, IfOk, OnErr, length};
+ghost use Rattle.std.specs.Io.KnownBytes.{Keeps};
+ghost use Rattle.json_lines.specs.ReadCalls.{CallOutcome};
+ghost use Rattle.json_lines.specs.Steps.{CameTo, Gives};
 
 use crate::fault::Fault;
 use crate::source::Source;
@@ -19,8 +20,9 @@ pub const MAX_READ_CALLS: u32 = 1_048_576;
 pub fn read_once<R: Source>(reader: &mut R, chunk: &mut [u8]) -> Result<Option<usize>, Fault>
     requires { 0 < length chunk.old }
     ensures given { IfOk result (Gives (R.remaining reader.old) (R.remaining reader.new) chunk.new) }
+    ensures kept { OnErr result (Keeps (R.remaining reader.old) (R.remaining reader.new)) }
     ensures error { IfErr result (λ e. e ≡ Fault.Read) }
-    ensures call { CallsOnce R.called reader.old reader.new }
+    ensures call { (outcome : CallOutcome) × R.called reader.old outcome reader.new × CameTo outcome result }
 {
     match reader.call(chunk) {
         Ok(0) => Ok(None),

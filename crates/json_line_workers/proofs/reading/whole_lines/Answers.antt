@@ -4,6 +4,8 @@ use Rattle.json_line_workers.specs.declared.place.Place.{Place}
 use Rattle.json_line_workers.specs.declared.held.Stop.{Stop}
 use Rattle.json_line_workers.specs.declared.reading.Next.{Next}
 use Rattle.json_line_workers.specs.Pieces.{HandsOut, IsNext, Stops, HandsOutLong}
+use Rattle.std.proofs.lemmas.Result.{err_from_is_err_and}
+use Rattle.json_line_workers.proofs.CallLaws.{hands_out}
 use Rattle.json_line_workers.proofs.NextLaws.{if-ok, next-end, next-lines, next-long, reading-more}
 use Rattle.json_line_workers.proofs.reading.whole_lines.Goals as goal
 
@@ -52,3 +54,33 @@ returns-in-TooLong-clause-next g c =
     (λ (next : Next) (hands : HandsOutLong held new next). subst (λ (p : Place). IsNext input c.args.most p new reader next) fill.at
     (next-long input c.args.most held new reader next reading outside hands stops.0 stops.1))
     c.hand_out_long.ensures.handed
+
+pub returns-in_err-fill-clause-calls : goal.returns-in_err-fill-clause-calls
+returns-in_err-fill-clause-calls g c =
+    let p = err_from_is_err_and c.from_residual.result c.from_residual.ensures.1 in
+    rw (p.1, p.2) c.in_err-fill.ensures.calls
+
+pub returns-in-Lines-clause-calls : goal.returns-in-Lines-clause-calls
+returns-in-Lines-clause-calls g c =
+    let held = c.fill.new.held in
+    let by = rw c.in-Lines.is at c.in_ok-fill.ensures.calls in
+    hands_out g.R.Source.called c.hand_out.result false c.args.reader.now c.fill.new.reader
+    (if-ok c.hand_out.result (HandsOut held.whole false held c.hand_out.new.held) (λ next. next.last ≡ false) (λ next hands. hands.last_is) c.hand_out.ensures.handed)
+    c.hand_out.ensures.error by
+
+pub returns-in-End-clause-calls : goal.returns-in-End-clause-calls
+returns-in-End-clause-calls g c =
+    let held = c.fill.new.held in
+    let by = rw c.in-End.is at c.in_ok-fill.ensures.calls in
+    hands_out g.R.Source.called c.hand_out-in-End.result true c.args.reader.now c.fill.new.reader
+    (if-ok c.hand_out-in-End.result (HandsOut c.len-count.result true held c.hand_out-in-End.new.held) (λ next. next.last ≡ true) (λ next hands. hands.last_is)
+    c.hand_out-in-End.ensures.handed)
+    c.hand_out-in-End.ensures.error by
+
+pub returns-in-TooLong-clause-calls : goal.returns-in-TooLong-clause-calls
+returns-in-TooLong-clause-calls g c =
+    let held = c.fill.new.held in
+    let by = rw c.in-TooLong.is at c.in_ok-fill.ensures.calls in
+    hands_out g.R.Source.called c.hand_out_long.result false c.args.reader.now c.fill.new.reader
+    (if-ok c.hand_out_long.result (HandsOutLong held c.hand_out_long.new.held) (λ next. next.last ≡ false) (λ next hands. hands.last_is) c.hand_out_long.ensures.handed)
+    c.hand_out_long.ensures.error by

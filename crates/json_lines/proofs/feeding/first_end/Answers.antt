@@ -16,3 +16,6 @@ returns-then-bytes-most-clause-found c = free_long c.args.most c.args.bytes.now 
 
 pub returns-else-bytes-most-clause-free : goal.returns-else-bytes-most-clause-free
 returns-else-bytes-most-clause-free c = none_free c.args.bytes.now c.in-None.ensures
+
+pub returns-in-Some-clause-before : goal.returns-in-Some-clause-before
+returns-in-Some-clause-before c = c.end_at.ensures.before

@@ -5,8 +5,8 @@ use Rattle.memchr.specs.Find.{IsFirstByte, is_byte}
 use Rattle.json_lines.specs.Steps.{Takes}
 use Rattle.json_lines.specs.declared.feeding.LineEnd.TheVariants.{Feed, TooLong}
 use Rattle.json_lines.proofs.FeedingLaws.{feed_after, few_after, free_after, free_long}
-use Rattle.json_lines.proofs.ReadCallLaws.{at_most_more, calls_more, calls_none}
-use Rattle.json_lines.proofs.TakingLaws.{takes-more, takes-none}
+use Rattle.json_lines.proofs.ReadCallLaws.{ends_once, fails_once, go_on_more, go_on_none, go_on_once, looks_on}
+use Rattle.json_lines.proofs.TakingLaws.{takes-kept, takes-lost, takes-more, takes-none, takes-some}
 use Rattle.json_lines.proofs.feeding.read_to_end.Goals as goal
 
 pub loop-init : goal.loop-init
@@ -14,28 +14,35 @@ loop-init g c = record {
   takes = takes-none _ _;
   free = c.requires.free;
   short = c.requires.short;
-  calls = calls_none g.R.Source.called _;
+  calls = go_on_none g.R.Source.called _;
 }
 
 pub returns-in_err-count-clause-calls : goal.returns-in_err-count-clause-calls
 returns-in_err-count-clause-calls g c =
-    at_most_more g.R.Source.called c.loop.counter _ _ _ _ c.loop-test.true c.loop.invariant.calls c.read_once.ensures.call
+    let p = err_from_is_err_and c.from_residual.result c.from_residual.ensures.1 in
+    rw (p.1, p.2, c.in_err-count.ensures.error) (fails_once g.R.Source.called c.loop.counter _ _ _ _ c.in_err-count.field-0.0 c.loop-test.true c.loop.invariant.calls c.in_err-count.ensures.call)
 
 pub returns-in_default-clause-calls : goal.returns-in_default-clause-calls
 returns-in_default-clause-calls g c =
-    at_most_more g.R.Source.called c.loop.counter _ _ _ _ c.loop-test.true c.loop.invariant.calls c.read_once.ensures.call
+    let call = rw c.in_default.is at c.in_ok-count.ensures.call in
+    ends_once g.R.Source.called c.loop.counter _ _ _ _ c.loop-test.true c.loop.invariant.calls call
 
 pub returns-in_err-extend_from_slice-clause-calls : goal.returns-in_err-extend_from_slice-clause-calls
 returns-in_err-extend_from_slice-clause-calls g c =
-    at_most_more g.R.Source.called c.loop.counter _ _ _ _ c.loop-test.true c.loop.invariant.calls c.read_once.ensures.call
+    let p = err_from_is_err_and c.from_residual-in_err-extend_from_slice.result c.from_residual-in_err-extend_from_slice.ensures.1 in
+    let call = rw c.in-Some.is at c.in_ok-count.ensures.call in
+    rw (p.1, p.2) (go_on_once g.R.Source.called c.loop.counter _ c.in-Some.count _ _ _ c.loop-test.true c.loop.invariant.calls call)
 
 pub returns-in-Some-memchr-clause-calls : goal.returns-in-Some-memchr-clause-calls
 returns-in-Some-memchr-clause-calls g c =
-    at_most_more g.R.Source.called c.loop.counter _ _ _ _ c.loop-test.true c.loop.invariant.calls c.read_once.ensures.call
+    let call = rw c.in-Some.is at c.in_ok-count.ensures.call in
+    looks_on g.R.Source.called _ c.end_at.result _ _ c.end_at.ensures.before
+    (go_on_once g.R.Source.called c.loop.counter _ c.in-Some.count _ _ _ c.loop-test.true c.loop.invariant.calls call)
 
 pub returns-then-len-most-clause-calls : goal.returns-then-len-most-clause-calls
 returns-then-len-most-clause-calls g c =
-    at_most_more g.R.Source.called c.loop.counter _ _ _ _ c.loop-test.true c.loop.invariant.calls c.read_once.ensures.call
+    let call = rw c.in-Some.is at c.in_ok-count.ensures.call in
+    go_on_once g.R.Source.called c.loop.counter _ c.in-Some.count _ _ _ c.loop-test.true c.loop.invariant.calls call
 
 pub returns-in-Some-memchr-clause-found : goal.returns-in-Some-memchr-clause-found
 returns-in-Some-memchr-clause-found g c =
@@ -82,7 +89,7 @@ loop-preserved g c =
       takes = takes-more _ _ _ _ _ _ c.loop.invariant.takes step;
       free = free_after c.args.most old more _ items c.loop.invariant.free none;
       short = search rules;
-      calls = calls_more g.R.Source.called c.loop.counter _ _ _ c.loop.invariant.calls c.read_once.ensures.call;
+      calls = let call = rw c.in-Some.is at c.in_ok-count.ensures.call in go_on_more g.R.Source.called c.loop.counter _ _ _ call.0 c.loop.invariant.calls call.1 call.2;
     }
 
 pub returns-in_default-clause-found : goal.returns-in_default-clause-found
@@ -124,7 +131,14 @@ returns-then-len-most-clause-few g c =
 pub returns-in_err-count-clause-kept : goal.returns-in_err-count-clause-kept
 returns-in_err-count-clause-kept g c =
     let p = err_from_is_err_and c.from_residual.result c.from_residual.ensures.1 in
-    rw p.1 (g.R.Source.remaining c.loop.reader, c.loop.invariant.takes)
+    rw p.1 (takes-kept _ _ _ _ _ c.loop.invariant.takes c.in_err-count.ensures.kept)
 
 pub returns-clause-kept : goal.returns-clause-kept
-returns-clause-kept g c = (g.R.Source.remaining c.loop.reader, c.loop.invariant.takes)
+returns-clause-kept g c = takes-some _ _ _ _ c.loop.invariant.takes
+
+pub returns-in_err-extend_from_slice-clause-kept : goal.returns-in_err-extend_from_slice-clause-kept
+returns-in_err-extend_from_slice-clause-kept g c =
+    let p = err_from_is_err_and c.from_residual-in_err-extend_from_slice.result c.from_residual-in_err-extend_from_slice.ensures.1 in
+    let same : c.extend_from_slice.new.self.items ≡ c.loop.bytes.items = search rules in
+    let given = rw c.in-Some.is at c.in_ok-count.ensures.given in
+    rw (p.1, same) (takes-lost _ _ _ _ _ (take c.in-Some.count c.read_once.new.chunk) c.loop.invariant.takes given.1)

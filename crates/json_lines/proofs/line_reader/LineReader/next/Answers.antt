@@ -4,7 +4,7 @@ use Rattle.json_lines.specs.Steps.{EndsIn, IsFree, TakesSome}
 use Rattle.json_lines.specs.LineReaders.{Lining}
 use Rattle.json_lines.proofs.FeedingLaws.{bytes_from}
 use Rattle.json_lines.proofs.FindingLaws.{finds_held, finds_read}
-use Rattle.json_lines.proofs.ReadCallLaws.{at_most, calls_none}
+use Rattle.json_lines.proofs.ReadCallLaws.{finds_as, finds_fault, go_on_none, looks_on}
 use Rattle.json_lines.proofs.line_reader.LineReader.next.Goals as goal
 
 pub invariant_of-self : goal.invariant_of-self
@@ -35,7 +35,7 @@ pub returns-in_err-end-clause-kept : goal.returns-in_err-end-clause-kept
 returns-in_err-end-clause-kept g c =
     let p = err_from_is_err_and c.from_residual.result c.from_residual.ensures.1 in
     let held = c.drop_front.ensures ∙ ap (λ (v : Lining). v.held) c.self.view_is in
-    rw p.1 (subst (λ l. TakesSome (g.R.Source.remaining c.args.reader.now) l c.read_to_end.new.bytes.items) held c.in_err-end.ensures.kept)
+    rw p.1 (subst (λ l. TakesSome (g.R.Source.remaining c.args.reader.now) (g.R.Source.remaining c.read_to_end.new.reader) l c.read_to_end.new.bytes.items) held c.in_err-end.ensures.kept)
 
 pub returns-in_err-end-clause-same : goal.returns-in_err-end-clause-same
 returns-in_err-end-clause-same g c =
@@ -50,7 +50,18 @@ returns-in-Some-clause-found g c =
     (c.found.ensures.over _ (c.in-Some.ensures.within _)) c.found.ensures.most
 
 pub returns-in-Some-clause-calls : goal.returns-in-Some-clause-calls
-returns-in-Some-clause-calls g c = at_most g.R.Source.called 0 _ _ _ (omega arith) (calls_none g.R.Source.called _)
+returns-in-Some-clause-calls g c =
+    finds_as g.R.Source.called _ c.in-Some.end c.found.result _ _ c.found.ensures.as_end
+    (looks_on g.R.Source.called _ c.in-Some.end _ _ c.in-Some.ensures.before (0, omega arith, go_on_none g.R.Source.called _))
+
+pub returns-clause-calls : goal.returns-clause-calls
+returns-clause-calls g c =
+    finds_as g.R.Source.called _ c.in_ok-end.end c.found-2.result _ _ c.found-2.ensures.as_end c.in_ok-end.ensures.calls
+
+pub returns-in_err-end-clause-calls : goal.returns-in_err-end-clause-calls
+returns-in_err-end-clause-calls g c =
+    let p = err_from_is_err_and c.from_residual.result c.from_residual.ensures.1 in
+    rw (p.1, p.2) (finds_fault g.R.Source.called _ c.in_err-end.field-0.0 _ _ c.in_err-end.ensures.calls)
 
 pub returns-clause-found : goal.returns-clause-found
 returns-clause-found g c =
