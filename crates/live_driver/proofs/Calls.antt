@@ -11,7 +11,7 @@ use Rattle.live_recorder.specs.Sessions.{LanesState, ReceiptState, SessionState,
 use Rattle.live_recorder.proofs.Telling.{get_push_before, get_push_cases, get_pushed, length_push}
 use Rattle.live_replica.specs.Replicas.{ReplicaState}
 use Rattle.live_seals.specs.Seals.{IsReceiptOf, IsSealOf, SealState}
-use Rattle.live_driver.specs.Clients.{AreSealsOf, HasReturned, HaveReturned, IsAt, IsFresh, IsLastReceipt, IsPlayed, PlayedState, StandsFor}
+use Rattle.live_driver.specs.Clients.{AreSealsOf, HasReturned, HaveReturned, IsAt, IsFresh, IsLastReceipt, IsPlayed, IsRecorded, PlayedState, StandsFor}
 use Rattle.live_driver.proofs.Lists.{get_append_cases, get_removed, get_taken, none_at, some_same}
 
 module _ {C R : Type 0} where
@@ -99,9 +99,11 @@ module _ {S C R : Type 0} (lanes : LanesState S) (input : HistoryValue S C R) (s
     told_of_lanes = (own.cells, subst (λ (k : ℕ). slice_get lanes.cells k ≡ Some own.cells) (sym is.lane) is.cells, λ i x h. get_taken own.cells.returns (length own.done) i x h)
 
     -- what a client leaves that has ended all calls but the open one
-    pub played : (stop : Option ℕ) (p : PlayedState S C R) → IsLastReceipt own p.receipt → AreSealsOf lanes p.seals
+    pub played : (stop : Option ℕ) (p : PlayedState S C R) → p.own.lane ≡ s → IsRecorded lanes input p.own → IsLastReceipt own p.receipt → AreSealsOf lanes p.seals
         → ((i : ℕ) → i < length (session input s) → ¬ ((stop ≡ Some s) × (i + 1 ≡ length (session input s))) → i < n) → IsPlayed lanes stop input s p
-    played stop p last seals but_one = record {
+    played stop p lane recorded last seals but_one = record {
+      lane = lane;
+      recorded = recorded;
       told = λ r e. subst (λ (x : ReceiptState C R). IsReceiptOf lanes x) (sym (last_is own p.receipt r last e)) told_of_lanes;
       seals = seals;
       calls = λ i c known here not_open. stands i c known here (but_one i (slice_get_within (session input s) i (c, known) here) not_open);

@@ -9,9 +9,10 @@ use Rattle.model_history.specs.History.{HistoryValue, entry, session}
 use Rattle.live_recorder.specs.Sessions.{LanesState, ReceiptState}
 use Rattle.live_recorder.proofs.Telling.{get_pushed}
 use Rattle.live_seals.specs.Seals.{AreReceiptsOf, HoldsAll, IsSealOf, SealState}
-use Rattle.live_driver.specs.Clients.{AreAllPlayed, IsGivenUp, IsPlayed, PlayedState, StandForCalls, StandsFor}
+use Rattle.live_driver.specs.Clients.{AreAllPlayed, HasFirstCalls, IsGivenUp, IsPlayed, PlayedState, StandForCalls, StandsFor}
 use Rattle.live_driver.specs.Drives.{IsOfInput, RepeatsCalls, StaysOpen}
 use Rattle.live_driver.specs.declared.drive_error.DriveError.{DriveError}
+use Rattle.live_driver.proofs.FirstCalls.{first_calls}
 use Rattle.live_driver.proofs.Lists.{get_append_cases, get_front, get_option, none_at, some_same}
 
 module _ {S C R : Type 0} where
@@ -74,5 +75,6 @@ module _ {S C R : Type 0} where
       let here : Some x ≡ Some y = sym (get_pushed xs x) ∙ (ap (λ (k : ℕ). slice_get (xs ++ x ∷ []) k) many ∙ (ap (λ (l : List (SealState S C R)). slice_get l n) (sym e) ∙ h)) in
       subst (λ (z : SealState S C R). RepeatsCalls stop input z.history) (some_same x y here) is
 
-  pub of_input : (lanes : LanesState S) (input : HistoryValue S C R) (x : SealState S C R) → lanes.start ≡ input.0 → length lanes.cells ≡ length input.1 → IsSealOf lanes x → IsOfInput input x.history
-  of_input lanes input x start many is = record { start = is.start ∙ start; many = is.many ∙ many }
+  pub of_input : (lanes : LanesState S) (input : HistoryValue S C R) (x : SealState S C R) → lanes.start ≡ input.0 → length lanes.cells ≡ length input.1
+      → IsSealOf lanes x → ((s : ℕ) → s < length input.1 → HasFirstCalls input x.history s) → IsOfInput input x.history
+  of_input lanes input x start many is first = record { start = is.start ∙ start; many = is.many ∙ many; calls = first_calls input x.history (is.many ∙ many) first }

@@ -1,4 +1,5 @@
 pub mod Calls
+pub mod FirstCalls
 pub mod Gathered
 pub mod Lists
 pub mod Receiving

@@ -1,5 +1,5 @@
 -- What stands where in lists that were put together, cut or searched.
-use Rattle.std.proofs.Common.{◌≡◌, ℕ, suc, zero, ◌⊎◌, List, [], ◌∷◌, ◌++◌, take, inl, inr}
+use Rattle.std.proofs.Common.{◌≡◌, ℕ, suc, zero, ◌<◌, ◌⊎◌, List, [], ◌∷◌, ◌++◌, length, take, inl, inr, refl, arith}
 use Rattle.std.specs.Prelude.{Option, Some, None, slice_get, remove}
 use Rattle.std.specs.Option.{option_to_list}
 
@@ -42,6 +42,12 @@ module _ {A : Type 0} where
   get_option None (suc j) x e = absurd (cc)
   get_option (Some y) zero x e = e
   get_option (Some y) (suc j) x e = absurd (cc)
+
+  -- there is an item at each place
+  pub there : (xs : List A) (i : ℕ) → i < length xs → (x : A) × (slice_get xs i ≡ Some x)
+  there [] i less = absurd (omega arith)
+  there (x ∷ xs) zero less = (x, refl)
+  there (x ∷ xs) (suc i) less = there xs i (omega arith)
 
   pub none_at : (i : ℕ) (x : A) → slice_get {X = A} [] i ≡ Some x → ⊥
   none_at zero x e = cc

@@ -4,10 +4,10 @@ use Rattle.model_history.specs.declared.op_id.OpId.{OpId}
 use Rattle.model_history.specs.declared.advice.Advice.{Advice}
 use Rattle.model_history.specs.History.{HistoryValue, entry, session}
 use Rattle.live_recorder.specs.Lanes.{Cells, Returned}
-use Rattle.live_recorder.specs.Sessions.{LanesState, ReceiptState, SessionState, after_finish, fresh_session, receipt_of, session_operation}
+use Rattle.live_recorder.specs.Sessions.{LanesState, ReceiptState, SessionState, after_finish, begun, fresh_session, receipt_of, session_operation}
 use Rattle.live_replica.specs.Replicas.{ReplicaState}
 use Rattle.live_seals.specs.Seals.{IsReceiptOf, IsSealOf, SealState}
-use Rattle.live_driver.specs.Drives.{StaysOpen}
+use Rattle.live_driver.specs.Drives.{StaysOpen, calls_in}
 use Rattle.live_driver.specs.declared.drive_error.DriveError.{DriveError}
 use Rattle.live_driver.specs.declared.drive_error.DriveError.TheVariants.{Memory, ClockFull, CellGaveBack}
 
@@ -18,10 +18,15 @@ IsGivenUp ClockFull = Unit {0}
 IsGivenUp CellGaveBack = Unit {0}
 IsGivenUp _ = ⊥
 
--- what a client leaves: a receipt for its last call, and the seals that it took
+-- what a client leaves: its session, a receipt for its last call, and the seals that it took
 pub record PlayedState (S C R : Type 0) : Type 0 where
+  pub own : SessionState C R
   pub receipt : Option (ReceiptState C R)
   pub seals : List (SealState S C R)
+
+-- what stands in a list stands at the same place in another
+abbrev pub StandsIn : {A : Type 0} → List A → List A → Type 0
+StandsIn {A} xs ys = (i : ℕ) (x : A) → slice_get xs i ≡ Some x → slice_get ys i ≡ Some x
 
 module _ {C R : Type 0} where
   -- the session after this call returned
@@ -67,8 +72,15 @@ module _ {S C R : Type 0} where
     pub answered : replica.operations ≡ n
     pub places : length (session input s) ≤ length own.cells.calls
 
+  -- a session of the lanes that has begun the first calls of its session of the input, and no others
+  pub record IsRecorded (lanes : LanesState S) (input : HistoryValue S C R) (own : SessionState C R) : Type 0 where
+    pub cells : slice_get lanes.cells own.lane ≡ Some own.cells
+    pub calls : StandsIn (begun own.done own.pending) (calls_in input own.lane)
+
   -- what the client of a session leaves: its receipt is of the lanes and stands for each call but the open one, and its seals are of the lanes
   pub record IsPlayed (lanes : LanesState S) (stop : Option ℕ) (input : HistoryValue S C R) (s : ℕ) (p : PlayedState S C R) : Type 0 where
+    pub lane : p.own.lane ≡ s
+    pub recorded : IsRecorded lanes input p.own
     pub told : (r : ReceiptState C R) → p.receipt ≡ Some r → IsReceiptOf lanes r
     pub seals : AreSealsOf lanes p.seals
     pub calls : (i : ℕ) (c : C) (known : Option R) → entry input (session_operation s i) ≡ Some (c, known) → ¬ StaysOpen stop input (session_operation s i)
@@ -94,3 +106,27 @@ module _ {S C R : Type 0} where
   -- receipts stand for all calls of the input but the one that stays open
   abbrev pub StandForCalls : Option ℕ → HistoryValue S C R → List (ReceiptState C R) → Type 0
   StandForCalls stop input receipts = (o : OpId) (c : C) (known : Option R) → entry input o ≡ Some (c, known) → ¬ StaysOpen stop input o → (j : ℕ) × (r : ReceiptState C R) × (slice_get receipts j ≡ Some r) × StandsFor r o.session o.index c
+
+  -- sessions that have so recorded
+  abbrev pub AreRecorded : LanesState S → HistoryValue S C R → List (SessionState C R) → Type 0
+  AreRecorded lanes input owns = (j : ℕ) (own : SessionState C R) → slice_get owns j ≡ Some own → IsRecorded lanes input own
+
+  -- sessions of all lanes from this one on
+  abbrev pub AreOfLanesFrom : ℕ → HistoryValue S C R → List (SessionState C R) → Type 0
+  AreOfLanesFrom n input owns = (s : ℕ) → n ≤ s → s < length input.1 → (j : ℕ) × (own : SessionState C R) × (slice_get owns j ≡ Some own) × (own.lane ≡ s)
+
+  -- a history has in this session the first calls of the input's, and no others
+  abbrev pub HasFirstCalls : HistoryValue S C R → HistoryValue S C R → ℕ → Type 0
+  HasFirstCalls input h s = StandsIn (calls_in h s) (calls_in input s)
+
+  -- a history does in the lane of each of these sessions
+  abbrev pub HasCallsOf : HistoryValue S C R → List (SessionState C R) → HistoryValue S C R → Type 0
+  HasCallsOf input owns h = (j : ℕ) (own : SessionState C R) → slice_get owns j ≡ Some own → HasFirstCalls input h own.lane
+
+  -- each of these seals does
+  abbrev pub HaveCallsOf : HistoryValue S C R → List (SessionState C R) → List (SealState S C R) → Type 0
+  HaveCallsOf input owns seals = (j : ℕ) (x : SealState S C R) → slice_get seals j ≡ Some x → HasCallsOf input owns x.history
+
+  -- each of these seals does in every session
+  abbrev pub HaveFirstCalls : HistoryValue S C R → List (SealState S C R) → Type 0
+  HaveFirstCalls input seals = (j : ℕ) (x : SealState S C R) → slice_get seals j ≡ Some x → (s : ℕ) → s < length input.1 → HasFirstCalls input x.history s

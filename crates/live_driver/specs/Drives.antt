@@ -1,5 +1,6 @@
 -- What a drive gives for an input. (This project's profile.)
-use Rattle.std.specs.Prelude.{◌≡◌, ℕ, ◌+◌, ◌<◌, ◌≤◌, List, length, Option, Some, slice_get}
+use Rattle.std.specs.Prelude.{◌≡◌, ℕ, ◌+◌, ◌<◌, ◌≤◌, List, length, map, Option, Some, slice_get}
+use Rattle.live_seals.specs.Cuts.{IsPrefixOf}
 use Rattle.live_seals.specs.Seals.{SealState}
 use Rattle.model_history.specs.declared.op_id.OpId.{OpId}
 use Rattle.model_history.specs.History.{HistoryValue, entry, session}
@@ -7,10 +8,15 @@ use Rattle.live_driver.specs.declared.drive_error.DriveError.{DriveError}
 use Rattle.live_driver.specs.declared.drive_error.DriveError.TheVariants.{BadLimits, NoSuch, Memory, ClockFull, CellGaveBack}
 
 module _ {S C R : Type 0} where
-  -- a history has the start of the input and as many sessions
+  -- the calls of a session of a history, in order
+  abbrev pub calls_in : HistoryValue S C R → ℕ → List C
+  calls_in h s = map (λ (e : C × Option R). e.0) (session h s)
+
+  -- a history has the start of the input and as many sessions, and in each the first calls of that session of the input, and no others
   pub record IsOfInput (input h : HistoryValue S C R) : Type 0 where
     pub start : h.0 ≡ input.0
     pub many : length h.1 ≡ length input.1
+    pub calls : (s : ℕ) → IsPrefixOf (calls_in h s) (calls_in input s)
 
   -- the call that stays open: the last one of the session that stops
   abbrev pub StaysOpen : Option ℕ → HistoryValue S C R → OpId → Type 0

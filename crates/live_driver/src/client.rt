@@ -3,7 +3,7 @@
 ghost use Rattle.std.specs.Prelude.{◌≡◌, ◌<◌, ◌+◌, [], length, IfErr, IfOk, None, OnOk};
 ghost use Rattle.model_history.specs.declared.limits.TheConstants.{MAX_OPERATIONS};
 ghost use Rattle.live_recorder.specs.Refusals.{HasPlace};
-ghost use Rattle.live_recorder.specs.Sessions.{receipt_of};
+ghost use Rattle.live_recorder.specs.Sessions.{after_begin, receipt_of};
 ghost use Rattle.live_driver.specs.Clients.{HasReturned, IsGivenUp};
 
 use crate::drive_error::DriveError;
@@ -57,7 +57,8 @@ impl<O: SeqObject, P: UpdateOrder> Client<O, P> {
         call: O::Call,
     ) -> Result<(), DriveError>
         requires { HasPlace self.old.session }
-        ensures { IfErr result IsGivenUp }
+        ensures begun { OnOk result (self.new.session ≡ after_begin self.old.session call) }
+        ensures refused { IfErr result IsGivenUp }
     {
         let op = self.next_op();
         take_in(rt, run, op.session_place(), &mut self.replica)?;
@@ -65,6 +66,15 @@ impl<O: SeqObject, P: UpdateOrder> Client<O, P> {
         let begun = begin(&mut self.session, call);
         gate.leave(op);
         begun
+    }
+
+    /// The session, without the replica.
+    pub(crate) fn into_session(self) -> Session<O>
+        ensures { result ≡ self.session }
+    {
+        let Client { session, replica } = self;
+        drop(replica);
+        session
     }
 
     /// The operation that comes next.

@@ -21,7 +21,8 @@ pub enum DriveError {
     /// The clock of a replica was at the greatest stamp. No run meets this.
     #[error("the clock stands at the greatest stamp")]
     ClockFull,
-    /// A cell that was to be set held a value, or a client left nothing. No run meets this.
+    /// A cell that was to be set held a value, a client left nothing, or a seal has a call that its session did not begin. No run meets
+    /// this.
     #[error("a cell gave the value back")]
     CellGaveBack,
 }

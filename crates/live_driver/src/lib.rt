@@ -8,6 +8,7 @@
 mod client;
 mod drive_error;
 mod driving;
+mod first_calls;
 mod gathering;
 mod input;
 mod mailboxes;

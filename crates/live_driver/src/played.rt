@@ -1,6 +1,6 @@
 //! What a client leaves at its end, and seals with their numbers.
 
-use live_recorder::Receipt;
+use live_recorder::{Receipt, Session};
 use live_seals::Sealed;
 use model_object_trait::SeqObject;
 use std::marker::Model;
@@ -20,9 +20,10 @@ impl<O: SeqObject> Model for NumberedSeal<O> {
     ghost view = { λ n. n.sealed };
 }
 
-/// What a client leaves: a receipt for its last call that has returned, and the seals that it took.
+/// What a client leaves: its session, a receipt for its last call that has returned, and the seals that it took.
 #[derive(Drop)]
 pub struct Played<O: SeqObject> {
+    pub(crate) session: Session<O>,
     pub(crate) receipt: Option<Receipt<O>>,
     pub(crate) seals: Vec<NumberedSeal<O>>,
 }
@@ -32,5 +33,5 @@ impl<O: SeqObject> Model for Played<O> {
 
     ghost Value = { PlayedState O.Start O.Call O.Ret };
 
-    ghost view = { λ p. record { receipt = p.receipt; seals = p.seals.items } };
+    ghost view = { λ p. record { own = p.session; receipt = p.receipt; seals = p.seals.items } };
 }

@@ -4,7 +4,7 @@ ghost use Rattle.std.specs.Prelude.{◌≡◌, ◌<◌, ◌≤◌, [], length, I
 ghost use Rattle.model_history.specs.History.{session};
 ghost use Rattle.model_history.specs.declared.limits.TheConstants.{MAX_OPERATIONS};
 ghost use Rattle.live_recorder.specs.Refusals.{HasPlace};
-ghost use Rattle.live_driver.specs.Clients.{AreSealsOf, IsAt, IsFresh, IsGivenUp, IsLastReceipt, IsPlayed};
+ghost use Rattle.live_driver.specs.Clients.{AreSealsOf, IsAt, IsFresh, IsGivenUp, IsLastReceipt, IsPlayed, IsRecorded};
 
 use crate::client::Client;
 use crate::drive_error::DriveError;
@@ -39,10 +39,15 @@ pub fn play<O: SeqObject, P: UpdateOrder, R: Wait, G: Gate>(
     let mut client = client_of::<O, P>(run, s, own)?;
     let mut seals = Vec::new(run.alloc);
     let receipt = play_calls(rt, run, gate, s, &mut client, &mut seals);
-    drop(client);
+    let session = client.into_session();
     match receipt {
-        Ok(receipt) => Ok(Played { receipt, seals }),
+        Ok(receipt) => Ok(Played {
+            session,
+            receipt,
+            seals,
+        }),
         Err(refused) => {
+            drop(session);
             drop(seals);
             Err(refused)
         }
@@ -62,7 +67,7 @@ fn play_calls<O: SeqObject, P: UpdateOrder, R: Wait, G: Gate>(
     requires seals { AreSealsOf run.now.lanes.now seals.old.items }
     requires within { s < length run.now.input.now.1 }
     ensures played { IfOk result (λ receipt. IsPlayed run.now.lanes.now run.now.plan.stop run.now.input.now s
-        (record { receipt = receipt; seals = seals.new.items })) }
+        (record { own = client.new.session; receipt = receipt; seals = seals.new.items })) }
     ensures refused { IfErr result IsGivenUp }
 {
     let ended = ended_calls(run.input, run.plan.stop, s);
@@ -139,17 +144,20 @@ fn play_open<O: SeqObject, P: UpdateOrder, R: Wait, G: Gate>(
     client: &mut Client<O, P>,
     seals: &mut Vec<NumberedSeal<O>>,
 ) -> Result<(), DriveError>
+    requires within { ended ≤ length (session run.now.input.now s) }
     requires at { IsAt run.now.lanes.now run.now.input.now s ended client.old.session client.old.replica }
     requires seals { AreSealsOf run.now.lanes.now seals.old.items }
+    ensures lane { OnOk result (client.new.session.lane ≡ s) }
+    ensures recorded { OnOk result (IsRecorded run.now.lanes.now run.now.input.now client.new.session) }
     ensures seals { OnOk result (AreSealsOf run.now.lanes.now seals.new.items) }
     ensures refused { IfErr result IsGivenUp }
 {
-    if ended < run.input.len(s) {
-        let call = call_at(run.input, s, ended);
-        client.leave_open(rt, run, gate, call)?;
-        take_due(run, seals)?;
+    if ended >= run.input.len(s) {
+        return Ok(());
     }
-    Ok(())
+    let call = call_at(run.input, s, ended);
+    client.leave_open(rt, run, gate, call)?;
+    take_due(run, seals)
 }
 
 /// Counts one more call, and takes the seals that are due then.

@@ -2,11 +2,12 @@
 
 ghost use Rattle.std.specs.Prelude.{◌≡◌, ◌+◌, ◌<◌, length, vec_len, IfErr, IfOk, OnOk};
 ghost use Rattle.live_seals.specs.Seals.{AreReceiptsOf, HoldsAll, IsSealOf};
-ghost use Rattle.live_driver.specs.Clients.{AreAllPlayed, AreSealsOf, IsGivenUp, StandForCalls};
+ghost use Rattle.live_driver.specs.Clients.{AreAllPlayed, AreSealsOf, HaveFirstCalls, IsGivenUp, StandForCalls};
 ghost use Rattle.live_driver.specs.Drives.{RepeatsAt, RepeatsCalls};
 
 use crate::drive_error::DriveError;
-use crate::gathering::gather;
+use crate::first_calls::check_seals;
+use crate::gathering::{Gathered, gather};
 use crate::played::{NumberedSeal, Played};
 use crate::run::Run;
 use live_recorder::Receipt;
@@ -15,7 +16,8 @@ use model_object_trait::SeqObject;
 
 /// The seals that the clients took, in order, and one more that is given all receipts; or why the last client that gave up did so.
 ///
-/// Also fails for want of memory. O(n) for n calls, beside the seals that are taken.
+/// Also fails for want of memory. Each seal is compared with what the sessions began. O(n) for n calls, and for each seal, beside the seals
+/// that are taken.
 pub fn seals_of<O: SeqObject>(
     run: &Run<O>,
     results: Vec<Result<Played<O>, DriveError>>,
@@ -24,12 +26,36 @@ pub fn seals_of<O: SeqObject>(
     requires played { AreAllPlayed run.now.lanes.now run.now.plan.stop run.now.input.now results.items }
     ensures many { IfOk result (λ sealed. length sealed.items ≡ run.now.plan.seals + 1) }
     ensures seals { IfOk result (λ sealed. AreSealsOf run.now.lanes.now sealed.items) }
+    ensures calls { IfOk result (λ sealed. HaveFirstCalls run.now.input.now sealed.items) }
     ensures last { IfOk result (λ sealed. RepeatsAt run.now.plan.seals run.now.plan.stop run.now.input.now sealed.items) }
     ensures refused { IfErr result IsGivenUp }
 {
-    let (receipts, taken) = gather(run, results)?;
+    let Gathered {
+        sessions,
+        receipts,
+        seals: taken,
+    } = gather(run, results)?;
+    let sealed = seals_with_last(run, taken, &receipts)?;
+    check_seals(run, &sessions, &sealed)?;
+    Ok(sealed)
+}
+
+/// The seals that the clients took, in order, and one more that is given all receipts.
+fn seals_with_last<O: SeqObject>(
+    run: &Run<O>,
+    taken: Vec<NumberedSeal<O>>,
+    receipts: &Vec<Receipt<O>>,
+) -> Result<Vec<Sealed<O>>, DriveError>
+    requires taken { AreSealsOf run.now.lanes.now taken.items }
+    requires told { AreReceiptsOf run.now.lanes.now receipts.now.items }
+    requires calls { StandForCalls run.now.plan.stop run.now.input.now receipts.now.items }
+    ensures many { IfOk result (λ sealed. length sealed.items ≡ run.now.plan.seals + 1) }
+    ensures seals { IfOk result (λ sealed. AreSealsOf run.now.lanes.now sealed.items) }
+    ensures last { IfOk result (λ sealed. RepeatsAt run.now.plan.seals run.now.plan.stop run.now.input.now sealed.items) }
+    ensures refused { IfErr result IsGivenUp }
+{
     let mut sealed = in_order(run, taken)?;
-    let last = seal_all(run, &receipts)?;
+    let last = seal_all(run, receipts)?;
     sealed.push(last)?;
     Ok(sealed)
 }

@@ -2,7 +2,7 @@ use Rattle.std.proofs.Common.{◌+◌, length, ap, ◌∙◌}
 use Rattle.live_recorder.proofs.Telling.{length_push}
 use Rattle.live_driver.proofs.Calls.{one_more_seal}
 use Rattle.live_driver.proofs.Gathered.{last_repeats}
-use Rattle.live_driver.proofs.sealing.seals_of.Goals as goal
+use Rattle.live_driver.proofs.sealing.seals_with_last.Goals as goal
 
 pub returns-clause-seals : goal.returns-clause-seals
 returns-clause-seals g c = one_more_seal c.args.run.now.lanes.now c.in_ok-sealed.sealed.items c.push.new.self.items c.in_ok-last.last c.in_ok-push.ensures.items c.in_ok-last.ensures.seal c.in_ok-sealed.ensures.seals
@@ -15,6 +15,3 @@ returns-clause-last g c =
 pub returns-clause-many : goal.returns-clause-many
 returns-clause-many g c =
     ap length c.in_ok-push.ensures.items ∙ (length_push c.in_ok-sealed.sealed.items c.in_ok-last.last ∙ ap (λ n. n + 1) c.in_ok-sealed.ensures.many)
-
-pub seal_all-requires-clause-calls : goal.seal_all-requires-clause-calls
-seal_all-requires-clause-calls g c κs within = c.in_ok-receipts.ensures.calls
