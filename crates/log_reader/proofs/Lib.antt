@@ -5,8 +5,12 @@ pub mod BookLaws
 pub mod FollowLaws
 pub mod TakeLaws
 pub mod ReadLaws
+pub mod LogCallLaws
 pub mod OneLogLaws
 pub mod QuickLaws
 pub mod ShownLaws
 pub mod NameLaws
+pub mod SpellLaws
+pub mod NameTextLaws
+pub mod EventLineLaws
 pub mod FormLaws

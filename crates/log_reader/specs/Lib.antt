@@ -1,12 +1,16 @@
 pub mod Names
 pub mod NameLaw
+pub mod NameTexts
 pub mod Forms
 pub mod Codes
 pub mod Faults
 pub mod Logs
 pub mod Readings
+pub mod EventLines
 pub mod Shown
 pub mod Steps
+pub mod Spelling
 pub mod BookSteps
 pub mod ReadSteps
+pub mod LogCalls
 pub mod QuickSteps

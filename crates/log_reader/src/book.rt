@@ -186,6 +186,13 @@ impl Book {
         self.lines[place]
     }
 
+    /// Each event has a line. The method does nothing.
+    pub(crate) fn events_have_lines(&self)
+        ensures { length self.now.lines ≡ length self.now.events }
+    {
+        let _lines = &self.lines;
+    }
+
     /// Each number of an event has a name. The method does nothing.
     pub(crate) fn numbers_have_names(&self)
         ensures { AreNamed self.now }

@@ -1,6 +1,8 @@
 //! Reading a log of events from a source.
 
-ghost use Rattle.std.specs.Prelude.{◌≡◌, ◌+◌, ◌<◌, ◌≤◌, max, [], IfErr, IfOk, IfSome, OnOk, length, slice_get, string_bytes, Ok, Some};
+ghost use Rattle.std.specs.Prelude.{◌≡◌, ◌+◌, ◌<◌, ◌≤◌, ℕ, max, [], IfErr, IfNone, IfOk, IfSome, OnErr, OnOk, OnSome, length, slice_get, string_bytes, Ok, Some};
+ghost use Rattle.json_lines.specs.ReadCalls.{IsFurther};
+ghost use Rattle.log_reader.specs.LogCalls.{ReadsLineBy, ReadsLogBy};
 ghost use Rattle.log_reader.specs.ReadSteps.{Reads, ReadsLine};
 ghost use Rattle.log_reader.specs.Readings.{AreNamed, Extends, FaultsAt, HasRead};
 ghost use Rattle.log_reader.specs.Shown.{IsShown};
@@ -70,6 +72,11 @@ impl EventReader {
         ensures fault { IfErr result (FaultsAt (length self.old.log.events + 1) (R.remaining source.old) self.old) }
         ensures extends { Extends self.old.log self.new.log }
         ensures few { OnOk result (length self.new.log.events ≤ length self.old.log.events + 1) }
+        ensures further { IsFurther (R.remaining source.old) (R.remaining source.new) }
+        ensures calls { ReadsLineBy R.called result source.old source.new }
+        ensures counted { IfOk result (λ end. IfNone end (self.new.count ≡ self.old.count + 1)) }
+        ensures uncounted { IfOk result (λ end. OnSome end (self.new.count ≡ self.old.count)) }
+        ensures faulted { OnErr result (self.new.count ≡ self.old.count) }
     {
         let found = self.lines.next(source)?;
         if self.count == u64::MAX {
@@ -103,13 +110,16 @@ impl EventReader {
     ///
     /// Refuses the first line that does not follow those before it; these have fewer events than were wanted. `Memory` where an allocation was refused, or where there
     /// are more events, names or lines than have numbers; `Read` where the source fails, or a line did not end within the read
-    /// calls that are allowed for one line. O(n) for n bytes, on average.
+    /// calls that are allowed for one line, and nowhere else. No read call is made after the end or after one that failed. O(n) for n bytes, on
+    /// average.
     pub fn read<R: Source>(&mut self, source: &mut R, most: u32) -> Result<Progress, LogFault>
         ensures read { IfOk result (Reads (R.remaining source.old) (R.remaining source.new) self.old self.new) }
         ensures fault { IfErr result (FaultsAt most (R.remaining source.old) self.old) }
         ensures extends { Extends self.old.log self.new.log }
         ensures enough { result ≡ Ok Progress.More → most ≤ length self.new.log.events }
         ensures few { OnOk result (length self.new.log.events ≤ max most (length self.old.log.events)) }
+        ensures further { IsFurther (R.remaining source.old) (R.remaining source.new) }
+        ensures calls { (lines : ℕ) × (self.new.count ≡ self.old.count + lines) × ReadsLogBy R.called lines result source.old source.new }
     {
         for _ in 0..u64::MAX {
             if self.book.events() >= most {
@@ -171,6 +181,13 @@ impl EventReader {
         ensures { IfOk result (λ o. IfSome o (λ note. IsShown (string_bytes note.text))) }
     {
         self.book.note(alloc, call, is_end)
+    }
+
+    /// Each event has a line. The method does nothing: what it ensures is the law.
+    pub fn events_have_lines(&self)
+        ensures { length self.now.log.lines ≡ length self.now.log.events }
+    {
+        self.book.events_have_lines();
     }
 
     /// Each number of an event has a name. The method does nothing: what it ensures is the law.

@@ -1,8 +1,10 @@
 //! Names, as JSON values are.
 
 ghost use Rattle.std.specs.Prelude.{◌≡◌, [], OnOk, option_map, string_bytes};
+ghost use Rattle.std.specs.Fmt.{decimal, signed_decimal};
 ghost use Rattle.serde_json.specs.View.{view};
 ghost use Rattle.log_reader.specs.Names.{name_of as name_at, value_name as value_name_at};
+ghost use Rattle.log_reader.specs.Spelling.{IsName};
 ghost use Rattle.log_reader.specs.Steps.{name_in};
 
 use itoa::Buffer;
@@ -57,16 +59,35 @@ pub(crate) fn value_name_of(value: &Value) -> Option<NameValue<'_>>
 /// Writes the text that identifies a name. The text is empty before. O(n) for a text of n bytes.
 pub(crate) fn write_name(code: &mut String, name: NameValue<'_>) -> Result<(), AllocError>
     requires { string_bytes code.old ≡ [] }
-    ensures { OnOk result (string_bytes code.new ≡ name_in name.entry) }
+    ensures code { OnOk result (string_bytes code.new ≡ name_in name.entry) }
+    ensures name { OnOk result (IsName (string_bytes code.new)) }
 {
     match name {
         NameValue::Text(text) => {
             code.push_str("\"")?;
             code.push_str(text)
         }
-        NameValue::Whole(number) => code.push_str(Buffer::new().format(number)),
-        NameValue::Negative(number) => code.push_str(Buffer::new().format(number)),
+        NameValue::Whole(number) => push_whole(code, number),
+        NameValue::Negative(number) => push_signed(code, number),
         NameValue::Truth(true) => code.push_str("true"),
         NameValue::Truth(false) => code.push_str("false"),
     }
+}
+
+// Writes a whole number.
+fn push_whole(code: &mut String, number: u64) -> Result<(), AllocError>
+    requires { string_bytes code.old ≡ [] }
+    ensures code { OnOk result (string_bytes code.new ≡ decimal number) }
+    ensures name { OnOk result (IsName (string_bytes code.new)) }
+{
+    code.push_str(Buffer::new().format(number))
+}
+
+// Writes a whole number that may be negative.
+fn push_signed(code: &mut String, number: i64) -> Result<(), AllocError>
+    requires { string_bytes code.old ≡ [] }
+    ensures code { OnOk result (string_bytes code.new ≡ signed_decimal number) }
+    ensures name { OnOk result (IsName (string_bytes code.new)) }
+{
+    code.push_str(Buffer::new().format(number))
 }

@@ -1,8 +1,9 @@
 //! Tables of names.
 
-ghost use Rattle.std.specs.Prelude.{◌≡◌, ◌<◌, [], ◌++◌, List, length, map, IfOk, OnOk, string_bytes};
-ghost use Rattle.log_reader.specs.Names.{Name, number_in, with_name};
-ghost use Rattle.log_reader.specs.Shown.{IsShown, StaysShown};
+ghost use Rattle.std.specs.Prelude.{◌≡◌, ◌<◌, [], ◌++◌, All, List, length, map, slice_index_or, IfOk, OnOk, string_bytes};
+ghost use Rattle.log_reader.specs.Names.{Name, number_in, text_name, with_name};
+ghost use Rattle.log_reader.specs.NameTexts.{IsNameText};
+ghost use Rattle.log_reader.specs.Spelling.{IsName};
 ghost use Rattle.log_reader.specs.Steps.{name_in};
 
 use crate::name_value::{NameValue, write_name};
@@ -21,11 +22,15 @@ pub struct Names {
 
 impl Model for Names {
     ghost use Rattle.std.specs.Prelude.{List, map, string_bytes};
+    ghost use Rattle.std.specs.List.{All};
     ghost use Rattle.log_reader.specs.Names.{Name};
+    ghost use Rattle.log_reader.specs.Spelling.{IsName};
 
     ghost Value = { List Name };
 
     ghost view = { λ t. map string_bytes t.names.keys };
+
+    ghost invariant = { λ t. All IsName (map string_bytes t.names.keys) };
 }
 
 impl Names {
@@ -50,16 +55,14 @@ impl Names {
     /// direction of a text and those that end a line are escaped.
     ///
     /// Fails for want of memory alone. O(n) for a name of n bytes.
-    #[tactic(auto, using(crate::proofs::ShownLaws::shown_none))]
     pub fn text(&self, alloc: Global, number: u32) -> Result<String, AllocError>
         requires { number < length self.now }
-        ensures { IfOk result (λ text. IsShown (string_bytes text)) }
+        ensures { IfOk result (λ text. IsNameText (slice_index_or self.now number []) (string_bytes text)) }
     {
-        let mut text = String::new(alloc);
-        if let Some(name) = self.names.get_index(number as usize) {
-            push_name(&mut text, name.as_str())?;
+        match self.names.get_index(number as usize) {
+            Some(name) => name_text(alloc, name.as_str()),
+            None => Err(AllocError),
         }
-        Ok(text)
     }
 
     /// The number of a name. Adds the name to the table where it is not there.
@@ -81,26 +84,36 @@ impl Names {
     }
 }
 
-// Writes a name as a JSON text.
-fn push_name(text: &mut String, name: &str) -> Result<(), AllocError>
-    ensures { OnOk result (StaysShown (string_bytes text.old) (string_bytes text.new)) }
+// A name as a JSON text.
+fn name_text(alloc: Global, name: &str) -> Result<String, AllocError>
+    requires { IsName name.now }
+    ensures { IfOk result (λ text. IsNameText name.now (string_bytes text)) }
 {
     match name.strip_prefix('"') {
-        Some(shown) => {
-            push_quote(text)?;
-            push_shown(text, shown)?;
-            push_quote(text)
-        }
-        None => push_shown(text, name),
+        Some(shown) => quoted_text(alloc, shown),
+        None => String::from_str(alloc, name),
     }
+}
+
+// A text as a JSON text.
+fn quoted_text(alloc: Global, shown: &str) -> Result<String, AllocError>
+    ensures { IfOk result (λ text. IsNameText (text_name shown.now) (string_bytes text)) }
+{
+    let mut text = String::new(alloc);
+    push_quote(&mut text)?;
+    push_shown(&mut text, shown)?;
+    push_quote(&mut text)?;
+    Ok(text)
 }
 
 // The place of a name. Adds the name where it is not there.
 fn place_in(names: &mut IndexSet<String>, name: &str) -> Result<usize, AllocError>
+    requires { IsName name.now }
     ensures number { IfOk result (λ place. place ≡ number_in (map string_bytes names.old.keys) name.now) }
     ensures within { IfOk result (λ place. place < length (map string_bytes names.new.keys)) }
     ensures table { OnOk result (map string_bytes names.new.keys ≡ with_name (map string_bytes names.old.keys) name.now) }
     ensures grows { (more : List Name) × (map string_bytes names.new.keys ≡ map string_bytes names.old.keys ++ more) }
+    ensures each { All IsName (map string_bytes names.old.keys) → All IsName (map string_bytes names.new.keys) }
 {
     if let Some(place) = names.get_index_of(name) {
         return Ok(place);

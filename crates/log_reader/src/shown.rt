@@ -1,7 +1,9 @@
 //! Texts as JSON, in which no character disturbs a terminal.
 
-ghost use Rattle.std.specs.Prelude.{◌≡◌, ◌<◌, ◌≤◌, ◌↔◌, true, IsTrue, OnOk, string_bytes};
+ghost use Rattle.std.specs.Prelude.{◌≡◌, ◌≢◌, ◌<◌, ◌≤◌, ◌↔◌, ◌⊎◌, [], ◌∷◌, true, false, IsTrue, OnOk, encode_utf8, string_bytes};
+ghost use Rattle.std.specs.Char.{digit_char};
 ghost use Rattle.log_reader.specs.Shown.{IsPlain, StaysShown};
+ghost use Rattle.log_reader.specs.Spelling.{Adds, AddsSpelled};
 
 use std::alloc::AllocError;
 
@@ -13,7 +15,8 @@ fn is_between(code: u32, low: u32, high: u32) -> bool
 
 // Whether a character is shown as it is.
 fn is_plain(c: char) -> bool
-    ensures { result ≡ true → IsPlain c }
+    ensures plain { result ≡ true → IsPlain c }
+    ensures low { result ≡ false → c < 55296 }
 {
     let code = u32::from(c);
     if code < 0x20 {
@@ -36,14 +39,29 @@ fn is_plain(c: char) -> bool
 
 fn push_plain(text: &mut String, c: char) -> Result<(), AllocError>
     requires { IsPlain c }
-    ensures { OnOk result (StaysShown (string_bytes text.old) (string_bytes text.new)) }
+    ensures shown { OnOk result (StaysShown (string_bytes text.old) (string_bytes text.new)) }
+    ensures added { OnOk result (Adds (encode_utf8 c) (string_bytes text.old) (string_bytes text.new)) }
 {
     text.push(c)
 }
 
+// Writes a character of ASCII that is shown as it is.
+#[tactic(auto, using(crate::proofs::NameTextLaws::low_plain))]
+fn push_letter(text: &mut String, c: char) -> Result<(), AllocError>
+    requires low { 32 ≤ c }
+    requires high { c < 127 }
+    ensures shown { OnOk result (StaysShown (string_bytes text.old) (string_bytes text.new)) }
+    ensures added { OnOk result (Adds (c ∷ []) (string_bytes text.old) (string_bytes text.new)) }
+{
+    push_plain(text, c)
+}
+
 // A digit to the base 16.
 fn hex_digit(digit: u32) -> char
-    ensures { IsPlain result }
+    requires { digit < 16 }
+    ensures low { 32 ≤ result }
+    ensures high { result < 127 }
+    ensures digit { result ≡ digit_char digit }
 {
     match digit {
         0 => '0',
@@ -65,21 +83,25 @@ fn hex_digit(digit: u32) -> char
     }
 }
 
-// Writes an escape of four digits to the base 16.
+// Writes an escape of four digits to the base 16, which stands for a character.
 fn push_escape(text: &mut String, code: u32) -> Result<(), AllocError>
-    ensures { OnOk result (StaysShown (string_bytes text.old) (string_bytes text.new)) }
+    requires { code < 55296 }
+    ensures shown { OnOk result (StaysShown (string_bytes text.old) (string_bytes text.new)) }
+    ensures spelled { OnOk result (AddsSpelled (encode_utf8 code) (string_bytes text.old) (string_bytes text.new)) }
 {
-    push_plain(text, '\\')?;
-    push_plain(text, 'u')?;
-    push_plain(text, hex_digit((code >> 12) % 16))?;
-    push_plain(text, hex_digit((code >> 8) % 16))?;
-    push_plain(text, hex_digit((code >> 4) % 16))?;
-    push_plain(text, hex_digit(code % 16))
+    push_letter(text, '\\')?;
+    push_letter(text, 'u')?;
+    push_letter(text, hex_digit(code / 4096 % 16))?;
+    push_letter(text, hex_digit(code / 256 % 16))?;
+    push_letter(text, hex_digit(code / 16 % 16))?;
+    push_letter(text, hex_digit(code % 16))
 }
 
 // Writes a character as it is, or as an escape where it is not plain.
 fn push_visible(text: &mut String, c: char) -> Result<(), AllocError>
-    ensures { OnOk result (StaysShown (string_bytes text.old) (string_bytes text.new)) }
+    ensures shown { OnOk result (StaysShown (string_bytes text.old) (string_bytes text.new)) }
+    ensures spelled { c ≢ 34 → c ≢ 92
+        → OnOk result (AddsSpelled (encode_utf8 c) (string_bytes text.old) (string_bytes text.new)) }
 {
     if is_plain(c) {
         push_plain(text, c)
@@ -88,18 +110,31 @@ fn push_visible(text: &mut String, c: char) -> Result<(), AllocError>
     }
 }
 
+// Writes a quotation mark or a backslash after a backslash.
+fn push_escaped(text: &mut String, c: char) -> Result<(), AllocError>
+    requires { (c ≡ 34) ⊎ (c ≡ 92) }
+    ensures shown { OnOk result (StaysShown (string_bytes text.old) (string_bytes text.new)) }
+    ensures spelled { OnOk result (AddsSpelled (encode_utf8 c) (string_bytes text.old) (string_bytes text.new)) }
+{
+    push_letter(text, '\\')?;
+    push_letter(text, c)
+}
+
 fn push_character(text: &mut String, c: char) -> Result<(), AllocError>
-    ensures { OnOk result (StaysShown (string_bytes text.old) (string_bytes text.new)) }
+    ensures shown { OnOk result (StaysShown (string_bytes text.old) (string_bytes text.new)) }
+    ensures spelled { OnOk result (AddsSpelled (encode_utf8 c) (string_bytes text.old) (string_bytes text.new)) }
 {
     if c == '"' || c == '\\' {
-        push_plain(text, '\\')?;
+        push_escaped(text, c)
+    } else {
+        push_visible(text, c)
     }
-    push_visible(text, c)
 }
 
 /// Writes the characters of a text, as they are in a JSON text.
 pub(crate) fn push_shown(text: &mut String, shown: &str) -> Result<(), AllocError>
-    ensures { OnOk result (StaysShown (string_bytes text.old) (string_bytes text.new)) }
+    ensures shown { OnOk result (StaysShown (string_bytes text.old) (string_bytes text.new)) }
+    ensures spelled { OnOk result (AddsSpelled shown.now (string_bytes text.old) (string_bytes text.new)) }
 {
     for c in shown.chars() {
         push_character(text, c)?;
@@ -119,7 +154,8 @@ pub(crate) fn push_json(text: &mut String, json: &str) -> Result<(), AllocError>
 
 /// Writes a quotation mark.
 pub(crate) fn push_quote(text: &mut String) -> Result<(), AllocError>
-    ensures { OnOk result (StaysShown (string_bytes text.old) (string_bytes text.new)) }
+    ensures shown { OnOk result (StaysShown (string_bytes text.old) (string_bytes text.new)) }
+    ensures added { OnOk result (Adds (34 ∷ []) (string_bytes text.old) (string_bytes text.new)) }
 {
-    push_plain(text, '"')
+    push_letter(text, '"')
 }

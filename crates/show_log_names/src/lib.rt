@@ -1,7 +1,7 @@
 //! The operations of a history that represents a log of events, by the names that the log has and the numbers of its lines.
 //!
 //! It gives [`LogNames`] over a [`LogTables`], which says what each operation represents and what the log calls its clients, keys and
-//! values. Nobody trusts these texts: they say something of any operation and of any number.
+//! values. An operation is named by the line on which its call begins. No clause restricts the other texts.
 #![tactic(auto)]
 
 mod log_names;

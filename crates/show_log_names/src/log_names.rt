@@ -1,5 +1,9 @@
 //! The names of a log, as texts on its history have them.
 
+ghost use Rattle.std.specs.Prelude.{◌≡◌, IfOk, string_bytes};
+ghost use Rattle.log_reader.specs.EventLines.{line_at};
+ghost use Rattle.show_log_names.specs.OperationLines.{is_of_lost_write, number_name, operation_name, role};
+
 use crate::log_tables::{LogTables, StoodFor};
 use crate::notes::with_notes;
 use crate::phrases::{
@@ -7,7 +11,7 @@ use crate::phrases::{
 };
 use log_events::Ending;
 use model_history::OpId;
-use show_words::{Names, counted, listed, name_of};
+use show_words::{Names, counted, listed};
 use std::alloc::{AllocError, Global};
 
 /// The most keys that are listed by name.
@@ -34,12 +38,16 @@ enum Held {
 
 impl<'a, T: LogTables> LogNames<'a, T> {
     // Whether the session of an operation is one of a lost write.
-    fn is_in_fork(&self, op: OpId) -> bool {
+    fn is_in_fork(&self, op: OpId) -> bool
+        ensures { result ≡ is_of_lost_write (T.log self.now.tables.now) op }
+    {
         op.session >= self.tables.clients()
     }
 
     // The line on which the call of an operation begins.
-    fn line(&self, stood: StoodFor) -> u64 {
+    fn line(&self, stood: StoodFor) -> u64
+        ensures { result ≡ line_at (T.log self.now.tables.now) stood.place }
+    {
         self.tables.line(stood.place)
     }
 
@@ -114,19 +122,17 @@ impl<'a, T: LogTables> Names for LogNames<'a, T> {
         is_own || (self.is_in_fork(to) && to.index == 0)
     }
 
-    fn operation(&self, alloc: Global, op: OpId) -> Result<String, AllocError> {
-        let Some(stood) = self.tables.stood_for(op) else {
-            return name_of(alloc, op);
-        };
-        let line = self.line(stood);
-        if self.is_in_fork(op) {
-            if op.index == 0 {
-                return format!(in alloc; "line {line} (later)");
+    fn operation(&self, alloc: Global, op: OpId) -> Result<String, AllocError>
+        ensures { IfOk result (λ text. string_bytes text ≡ operation_name (T.log self.now.tables.now) op) }
+    {
+        match self.tables.stood_for(op) {
+            Some(stood) => {
+                let line = self.line(stood);
+                let role = role_words(self.is_in_fork(op), op.index, stood.ending);
+                format!(in alloc; "line {line}{role}")
             }
-        } else if stood.ending == Some(Ending::Lost) {
-            return format!(in alloc; "line {line} (call)");
+            None => name_by_numbers(alloc, op),
         }
-        format!(in alloc; "line {line}")
     }
 
     fn session(&self, alloc: Global, op: OpId) -> Result<String, AllocError> {
@@ -242,6 +248,25 @@ impl<'a, T: LogTables> Names for LogNames<'a, T> {
         let value = self.value(alloc, key, value)?;
         format!(in alloc; "wrote {value} to it")
     }
+}
+
+// Which of the operations of a lost write an operation is.
+fn role_words(is_of_lost: bool, index: u64, ending: Option<Ending>) -> &'static str
+    ensures { result.now ≡ role is_of_lost index ending }
+{
+    match ending {
+        _ if is_of_lost && index == 0 => " (later)",
+        Some(Ending::Lost) if !is_of_lost => " (call)",
+        _ => "",
+    }
+}
+
+// The name of an operation of which nothing is known.
+fn name_by_numbers(alloc: Global, op: OpId) -> Result<String, AllocError>
+    ensures { IfOk result (λ text. string_bytes text ≡ number_name op) }
+{
+    let OpId { session, index } = op;
+    format!(in alloc; "{session}.{index}")
 }
 
 // What a client did by a call, and its notes.

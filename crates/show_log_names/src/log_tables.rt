@@ -1,5 +1,12 @@
 //! What is known of the operations of a log's history, and of its names.
 
+ghost use Rattle.std.specs.Prelude.{◌≡◌, option_map, IfOk, string_bytes};
+ghost use Rattle.log_events.specs.Histories.{clients as clients_in};
+ghost use Rattle.log_reader.specs.EventLines.{line_at};
+ghost use Rattle.log_reader.specs.Logs.{Log};
+ghost use Rattle.show_log_names.specs.OperationLines.{origin_of, stood_for as stood_for_call};
+ghost use Rattle.show_log_names.specs.TableNames.{IsNameAt};
+
 use log_events::{ClientCall, Ending};
 use model_history::OpId;
 use std::alloc::{AllocError, Global};
@@ -28,26 +35,35 @@ pub struct CallNote {
 
 /// What is known of the operations of a log's history, and of its names.
 ///
-/// No contract restricts an answer: other names only make other texts. Names and notes are JSON texts with no line feed, in which no
-/// character disturbs a terminal. Each call that gives a text fails for want of memory alone.
+/// Names and notes are JSON texts with no line feed, in which no character disturbs a terminal. No contract restricts notes, nor a name
+/// of a number that the log does not have. Each call that gives a text fails for want of memory alone.
 pub trait LogTables {
+    /// The log.
+    ghost log: { Self → Log };
+
     /// The call that an operation of the history represents: none where the history has no such operation.
-    fn stood_for(&self, op: OpId) -> Option<StoodFor>;
+    fn stood_for(&self, op: OpId) -> Option<StoodFor>
+        ensures { result ≡ option_map stood_for_call (origin_of (log self.now) op) };
 
     /// How many sessions are those of clients: the first ones. The others are those of lost writes.
-    fn clients(&self) -> u64;
+    fn clients(&self) -> u64
+        ensures { result ≡ clients_in (log self.now).events };
 
     /// The number of the line on which the event at a place is, from 1.
-    fn line(&self, place: u32) -> u64;
+    fn line(&self, place: u32) -> u64
+        ensures { result ≡ line_at (log self.now) place };
 
     /// The name of a client.
-    fn client_name(&self, alloc: Global, client: u32) -> Result<String, AllocError>;
+    fn client_name(&self, alloc: Global, client: u32) -> Result<String, AllocError>
+        ensures { IfOk result (λ text. IsNameAt (log self.now).clients client (string_bytes text)) };
 
     /// The name of a key.
-    fn key_name(&self, alloc: Global, key: u32) -> Result<String, AllocError>;
+    fn key_name(&self, alloc: Global, key: u32) -> Result<String, AllocError>
+        ensures { IfOk result (λ text. IsNameAt (log self.now).keys key (string_bytes text)) };
 
     /// A value as it is written.
-    fn value_name(&self, alloc: Global, value: u32) -> Result<String, AllocError>;
+    fn value_name(&self, alloc: Global, value: u32) -> Result<String, AllocError>
+        ensures { IfOk result (λ text. IsNameAt (log self.now).values value (string_bytes text)) };
 
     /// The note on the begin or on the end of the call that began at a place: none where there is none.
     fn note(&self, alloc: Global, place: u32, is_end: bool) -> Result<Option<CallNote>, AllocError>;

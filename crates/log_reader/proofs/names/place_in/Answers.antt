@@ -1,6 +1,7 @@
 use Rattle.std.proofs.Common.{List, Global, sym, ◌∙◌, map}
 use Rattle.std.specs.Prelude.{string_bytes}
 use Rattle.log_reader.specs.Names.{Name}
+use Rattle.log_reader.proofs.NameTextLaws.{each_named}
 use Rattle.log_reader.proofs.TableLaws.{number_found, number_inserted, table_inserted, table_stays, with_name-grows}
 use Rattle.log_reader.proofs.names.place_in.Goals as goal
 
@@ -27,3 +28,10 @@ returns-clause-grows c =
     let table = table_inserted c.args.names.now.keys c.in_ok-owned.owned c.insert_full.new.self.keys c.args.name.now c.in_ok-place.ensures.keys ok in
     let more = with_name-grows bytes c.args.name.now in
     (more.0, table ∙ more.1)
+
+pub returns-clause-each : goal.returns-clause-each
+returns-clause-each c =
+    let bytes : List Name = map (string_bytes {Z = Global}) c.args.names.now.keys in
+    let ok = c.in_ok-owned.ensures.ok in
+    let table = table_inserted c.args.names.now.keys c.in_ok-owned.owned c.insert_full.new.self.keys c.args.name.now c.in_ok-place.ensures.keys ok in
+    each_named bytes (map (string_bytes {Z = Global}) c.insert_full.new.self.keys) c.args.name.now table c.requires

@@ -5,7 +5,9 @@ use Rattle.log_reader.specs.BookSteps.{IsLineFault, IsRestFault}
 use Rattle.log_reader.specs.Logs.{EndsBy, Takes}
 use Rattle.log_reader.specs.ReadSteps.{ReadsAll, ReadsMore}
 use Rattle.log_reader.specs.Readings.{Extends, FaultsAt, Reading}
+use Rattle.json_lines.proofs.TakingLaws.{further_some}
 use Rattle.log_reader.proofs.BookLaws.{extends-same}
+use Rattle.log_reader.proofs.LogCallLaws.{found_calls, line_fault_calls, no_line_calls, rest_fault_calls}
 use Rattle.log_reader.proofs.ReadLaws.{line_fault, long_fault, reads_end, reads_line, reads_rest, rest_fault}
 use Rattle.log_reader.proofs.TakeLaws.{ends_few, takes_few}
 use Rattle.log_reader.proofs.event_reader.EventReader.read_line.Goals as goal
@@ -103,3 +105,25 @@ returns-in_err-torn-in-Rest-clause-extends g c = subst (λ (r : Reading). Extend
 
 pub returns-in_ok-torn-in-Rest-clause-extends : goal.returns-in_ok-torn-in-Rest-clause-extends
 returns-in_ok-torn-in-Rest-clause-extends g c = subst (λ (r : Reading). Extends r.log c.take_rest.new.book) c.self.view_is c.take_rest.ensures.extends
+
+pub returns-in_err-found-clause-calls : goal.returns-in_err-found-clause-calls
+returns-in_err-found-clause-calls g c =
+    let p = err_from_is_err_and c.from_residual.result c.from_residual.ensures.1 in
+    rw p.1 (no_line_calls g.R.Source.called c.in_err-found.field-0.0 _ _ _ p.2 c.in_err-found.ensures.calls)
+
+pub returns-in_err-take_line-in-Line-clause-calls : goal.returns-in_err-take_line-in-Line-clause-calls
+returns-in_err-take_line-in-Line-clause-calls g c =
+    let p = err_from_is_err_and c.from_residual-in_err-take_line-in-Line.result c.from_residual-in_err-take_line-in-Line.ensures.1 in
+    rw (p.1, p.2)
+    (line_fault_calls g.R.Source.called c.self.inside.book c.line.result.now (c.self.inside.count + 1) c.in_err-take_line-in-Line.field-0.0 _ _
+    c.in_err-take_line-in-Line.ensures.fault (found_calls g.R.Source.called c.in_ok-found.found _ _ c.in_ok-found.ensures.calls))
+
+pub returns-in_err-torn-in-Rest-clause-calls : goal.returns-in_err-torn-in-Rest-clause-calls
+returns-in_err-torn-in-Rest-clause-calls g c =
+    let p = err_from_is_err_and c.from_residual-in_err-torn-in-Rest.result c.from_residual-in_err-torn-in-Rest.ensures.1 in
+    rw (p.1, p.2)
+    (rest_fault_calls g.R.Source.called c.self.inside.book c.line-in-Rest.result.now (c.self.inside.count + 1) c.in_err-torn-in-Rest.field-0.0 _ _
+    c.in_err-torn-in-Rest.ensures.fault (found_calls g.R.Source.called c.in_ok-found.found _ _ c.in_ok-found.ensures.calls))
+
+pub returns-in_err-found-clause-further : goal.returns-in_err-found-clause-further
+returns-in_err-found-clause-further g c = further_some _ _ _ _ c.in_err-found.ensures.kept

@@ -1,0 +1,2 @@
+pub mod OperationLines
+pub mod TableNames
