@@ -1,6 +1,6 @@
 -- The command lines that the program takes, and what is said of other words. Text is bytes, and the first word is the
 -- program's name. What is wrong with other words is `clap`'s to say: `fault_of` tells which kinds of fault it finds.
-use Rattle.std.specs.Prelude.{◌≡◌, ◌≢◌, ◌⊎◌, ℕ, List, [], ◌∷◌, ◌-◌, Some, true, codes, fold}
+use Rattle.std.specs.Prelude.{◌≡◌, ◌≢◌, ◌⊎◌, ℕ, List, [], ◌∷◌, ◌-◌, Some, true, codes, fold, string_bytes}
 use Rattle.clap.specs.Lexer.{usize_max}
 use Rattle.clap.specs.Words.{App, IsAmong, Kinds, Rule, Text, new_app, new_rule, with_rule, with_subcommand}
 use Rattle.clap.specs.declared.builder.action.ArgAction.TheVariants.{Append, Set, SetTrue}
@@ -18,6 +18,7 @@ use Rattle.app_command_line.specs.declared.manner.TheConstants.{MAX_LEAST_READS}
 use Rattle.app_command_line.specs.declared.order.Usage.{Usage}
 use Rattle.app_command_line.specs.declared.order.Usage.TheVariants.{Fault, Help, Memory}
 use Rattle.app_command_line.specs.declared.sight.Sight.{Sight}
+use Rattle.app_command_line.specs.Shown.{AsksForTopic, IsHelpFor, IsTopicText, version_text}
 
 -- a command line asks for this on an input that looks so: it is the program's name, the word of a command, and the words after it
 abbrev pub IsCommandLine : Sight → Asked → List Text → Type 0
@@ -120,33 +121,41 @@ command_line = fold (λ app command. with_subcommand app command.top) top (judge
 abbrev pub IsRequest : ErrorKind → Type 0
 IsRequest kind = (kind ≡ DisplayHelp) ⊎ (kind ≡ DisplayVersion)
 
--- what is said of one fault, or in its place that memory ran out
-abbrev pub IsUsageOf : ErrorKind → Usage → Type 0
-IsUsageOf kind (Help text) = IsRequest kind
-IsUsageOf kind (Fault text) = (¬ IsRequest kind) × (kind ≢ OutOfMemory)
-IsUsageOf kind Memory = Unit {0}
+-- what is said of one fault in words, or in its place that memory ran out: of a request the help or the version that they ask for
+abbrev pub IsUsageOf : ErrorKind → List Text → Usage → Type 0
+IsUsageOf kind words (Help text) =
+    ((kind ≡ DisplayHelp) × IsHelpFor words (string_bytes text)) ⊎ ((kind ≡ DisplayVersion) × (string_bytes text ≡ version_text))
+IsUsageOf kind words (Fault text) = (¬ IsRequest kind) × (kind ≢ OutOfMemory)
+IsUsageOf kind words Memory = Unit {0}
 
--- what is said of words that give no task, where `clap` finds some of these kinds of fault in them, or none
-abbrev pub IsUsageFor : Kinds → Usage → Type 0
-IsUsageFor kinds (Help text) = (kind : ErrorKind) × IsAmong kind kinds × IsRequest kind
-IsUsageFor kinds (Fault text) = (kinds ≡ []) ⊎ ((kind : ErrorKind) × IsAmong kind kinds × (¬ IsRequest kind))
-IsUsageFor kinds Memory = Unit {0}
+-- what is said of words that give no task and ask for no topic, where `clap` finds some of these kinds of fault in them, or none
+abbrev pub IsUsageBy : Kinds → List Text → Usage → Type 0
+IsUsageBy kinds words (Help text) =
+    (IsAmong DisplayHelp kinds × IsHelpFor words (string_bytes text)) ⊎ (IsAmong DisplayVersion kinds × (string_bytes text ≡ version_text))
+IsUsageBy kinds words (Fault text) = (kinds ≡ []) ⊎ ((kind : ErrorKind) × IsAmong kind kinds × (¬ IsRequest kind))
+IsUsageBy kinds words Memory = Unit {0}
 
--- words that ask for help on a topic, and help, or in its place that memory ran out
-abbrev pub AsksForTopic : List Text → Type 0
-AsksForTopic (program ∷ word ∷ topic ∷ []) = (word ≡ codes "help") × ((topic ≡ codes "forms") ⊎ (topic ≡ codes "refusals"))
-AsksForTopic _ = ⊥
+-- the text of the topic that words ask for, or in its place that memory ran out
+abbrev pub IsTopicUsage : List Text → Usage → Type 0
+IsTopicUsage words (Help text) = IsTopicText words (string_bytes text)
+IsTopicUsage words (Fault text) = ⊥
+IsTopicUsage words Memory = Unit {0}
 
-abbrev pub IsHelp : Usage → Type 0
-IsHelp (Help text) = Unit {0}
-IsHelp (Fault text) = ⊥
-IsHelp Memory = Unit {0}
+-- what is said of words that give no task
+abbrev pub IsUsageFor : Kinds → List Text → Usage → Type 0
+IsUsageFor kinds words usage = (AsksForTopic words × IsTopicUsage words usage) ⊎ ((¬ AsksForTopic words) × IsUsageBy kinds words usage)
 
 -- a fault, or in its place that memory ran out
 abbrev pub IsFault : Usage → Type 0
 IsFault (Help text) = ⊥
 IsFault (Fault text) = Unit {0}
 IsFault Memory = Unit {0}
+
+-- the fault of this text, or in its place that memory ran out
+abbrev pub IsFaultWith : Text → Usage → Type 0
+IsFaultWith said (Help text) = ⊥
+IsFaultWith said (Fault text) = string_bytes text ≡ said
+IsFaultWith said Memory = Unit {0}
 
 -- the exit status where there is no task: 2 for a fault, and for help or the version 0, or 3 where it couldn't be written (4 where
 -- there was then no memory to say so)

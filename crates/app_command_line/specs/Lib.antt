@@ -2,4 +2,5 @@ pub mod Numerals
 pub mod Expected
 pub mod Options
 pub mod CommandLine
+pub mod Shown
 pub mod Steps

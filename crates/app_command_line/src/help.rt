@@ -3,10 +3,6 @@
 /// The version of the program, as in the file VERSION, and the kit that proves it.
 pub const VERSION: &str = "0.1.0 (rattle-kit-13b logic dac8208d650f15bf)";
 
-/// What the program is for.
-pub const ABOUT: &str =
-    "Judges a recorded history of replicated objects by the criteria of causal consistency";
-
 /// What `--long` lets `judge` take.
 pub const LONG: &str =
     "Judges a memory, and no other object, of any length; made for 10 to 1,000 sessions";
@@ -71,26 +67,3 @@ pub const NAMES: &str =
 
 /// What `--notes` lets `events` write.
 pub const NOTES: &str = "Writes the notes of the log's calls, each with the number of its line";
-
-/// How a run is recorded, judged and explained, and where to read on.
-pub const MANUAL: &str =
-    r#"Write down what the clients of a store call and are answered, an event a line,
-while they run. Judge the log, and have a no explained:
-
-  $ cat > run.jsonl <<'END'
-  > ["begin","alice",["w","user:5","v1"]]
-  > ["end","alice","ok"]
-  > ["begin","alice",["r","user:5"]]
-  > ["end","alice",null]
-  > END
-  $ causal_judge judge run.jsonl
-  cc no WriteCOInitRead
-  cm no WriteCOInitRead
-  ccv no WriteCOInitRead
-  $ causal_judge explain --html -o run.html run.jsonl
-
-Each line is yes, no with the kind of fault, or unknown, for causal consistency
-(cc), causal memory (cm) and causal convergence (ccv). Give each write a new
-value: else a line is yes or unknown. 'causal_judge help forms' has the forms of
-logs and histories, 'causal_judge help refusals' what a refusal means and the
-statuses, and 'causal_judge help explain' what a no means."#;

@@ -3,9 +3,11 @@
 //! [`command_of`] gives what the words ask for ([`Asked`]), or the [`Usage`] that says why they ask for nothing. [`Order`], [`Page`] and
 //! [`LogOrder`] are what a [`Task`] may be, and [`next_file`] gives the files that the words name. It uses clap for faults and help, and
 //! live_replica, cert_check and judge_workers for what options name.
-//! How words are read may change: the contract says which give which task. No contract fixes the texts of faults and of help.
+//! How words are read may change: the contract says which give which task, and on which page help is. No contract fixes the texts of
+//! faults that `clap` finds, nor what it writes of usage and options.
 #![tactic(auto)]
 
+mod abouts;
 mod arguments;
 mod coloring;
 mod detail;
@@ -13,6 +15,7 @@ mod drive;
 mod expected;
 mod form;
 mod help;
+mod help_page;
 mod judging;
 mod length;
 mod line_judging;
@@ -29,6 +32,7 @@ mod page;
 mod program;
 mod said;
 mod settings;
+mod shown;
 mod sight;
 mod topics;
 

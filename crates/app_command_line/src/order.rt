@@ -1,8 +1,9 @@
 //! The command line.
-ghost use Rattle.std.specs.Prelude.{◌≡◌, ◌⊎◌, [], IfErr, IfOk, MatchOption, MatchResult, map};
+ghost use Rattle.std.specs.Prelude.{◌≡◌, [], IfErr, IfOk, MatchOption, MatchResult, map, string_bytes};
 ghost use Rattle.clap.specs.Words.{HasKind, fault_of, kind_of};
-ghost use Rattle.app_command_line.specs.CommandLine.{AsksForTopic, AsksNothing, IsCommandLine, IsFault, IsHelp};
-ghost use Rattle.app_command_line.specs.CommandLine.{IsUsageFor, IsUsageOf, command_line};
+ghost use Rattle.app_command_line.specs.CommandLine.{AsksNothing, IsCommandLine, IsFault, IsUsageBy, IsUsageFor, IsUsageOf};
+ghost use Rattle.app_command_line.specs.CommandLine.{IsFaultWith, command_line};
+ghost use Rattle.app_command_line.specs.Shown.{IsHelpFor, version_text};
 
 use crate::detail::Detail;
 use crate::drive::Drive;
@@ -17,6 +18,7 @@ use crate::misuse::text_of_misuse;
 use crate::options::asked_of;
 use crate::page::Page;
 use crate::program::program;
+use crate::shown::{help_for, version_of};
 use crate::sight::Sight;
 use crate::topics::topic_in;
 use clap::error::ErrorKind;
@@ -93,20 +95,19 @@ pub enum Usage {
 /// On an input that looks like a log, `--events` counts as said; on one that looks like a memory history, `--long` does, but with
 /// `--certificates`; and on each input that was looked at, `--why`.
 ///
-/// Any other words give a `Usage`. It is `Help` for `help forms` and `help refusals`, and where `clap` finds a request for help or for
-/// the version, and `Fault` for all
-/// else: an unknown command, option or further word, no command, or a number or list that is missing or that the option doesn't
-/// take. If memory ran out, it is `Memory` instead of either.
+/// Any other words give a `Usage`. It is `Help` with the text of the topic for `help forms` and `help refusals`. Where `clap` finds a
+/// request for the version, it is `Help` with the version, and where it finds one for help, `Help` on the command that the second word
+/// names, or after `help` the third, or else on the program. It is `Fault` for all else: an unknown command, option or further word, no
+/// command, or a number or list that is missing or that the option doesn't take. If memory ran out, it is `Memory` instead of either.
 pub fn command_of<S: AsStr>(alloc: Global, words: &[S], sight: Sight) -> Result<Asked, Usage>
     ensures asked { MatchResult result (λ asked. IsCommandLine sight asked (map S.text words.now))
         (λ _. AsksNothing sight (map S.text words.now)) }
-    ensures usage { IfErr result (λ usage. IsUsageFor (fault_of command_line (map S.text words.now)) usage
-        ⊎ (AsksForTopic (map S.text words.now) × IsHelp usage)) }
+    ensures usage { IfErr result (IsUsageFor (fault_of command_line (map S.text words.now)) (map S.text words.now)) }
 {
     match asked_in(words, sight) {
         Some(asked) => Ok(asked),
         None => match topic_in(words) {
-            Some(topic) => Err(help_on(alloc, topic)),
+            Some(topic) => Err(shown(String::from_str(alloc, topic))),
             None => Err(usage_of(alloc, words)),
         },
     }
@@ -122,21 +123,21 @@ pub fn asked_in<S: AsStr>(words: &[S], sight: Sight) -> Option<Asked>
     asked_of(sight, word.as_str(), further)
 }
 
-// What the program says of words that give no task. `clap` would take a few of them, as `judge --`.
+// What the program says of words that give no task and ask for no topic. `clap` would take a few of them, as `judge --`.
 fn usage_of<S: AsStr>(alloc: Global, words: &[S]) -> Usage
-    ensures { IsUsageFor (fault_of command_line (map S.text words.now)) result }
+    ensures { IsUsageBy (fault_of command_line (map S.text words.now)) (map S.text words.now) result }
 {
     match matches_of(alloc, words) {
         Ok(_) => fault_of_misuse(alloc, words),
-        Err(error) => usage_by(alloc, &error),
+        Err(error) => usage_by(alloc, words, &error),
     }
 }
 
-// The help on a topic.
-fn help_on(alloc: Global, topic: &str) -> Usage
-    ensures { IsHelp result }
+// The text that is shown, where there was memory for it.
+fn shown(text: Result<String, AllocError>) -> Usage
+    ensures { MatchResult text (λ help. result ≡ Usage.Help help) (λ _. result ≡ Usage.Memory) }
 {
-    match String::from_str(alloc, topic) {
+    match text {
         Ok(text) => Usage::Help(text),
         Err(_) => Usage::Memory,
     }
@@ -144,7 +145,7 @@ fn help_on(alloc: Global, topic: &str) -> Usage
 
 // What the program says of words that `clap` takes but that give no task.
 fn fault_of_misuse<S: AsStr>(alloc: Global, words: &[S]) -> Usage
-    ensures { IsUsageFor [] result }
+    ensures { IsFault result }
 {
     match text_of_misuse(alloc, words) {
         Ok(text) => Usage::Fault(text),
@@ -154,7 +155,7 @@ fn fault_of_misuse<S: AsStr>(alloc: Global, words: &[S]) -> Usage
 
 /// The fault that this text describes, or `Memory`.
 pub fn fault_with(alloc: Global, text: &str) -> Usage
-    ensures { IsUsageFor [] result }
+    ensures { IsFaultWith text.now result }
 {
     match String::from_str(alloc, text) {
         Ok(text) => Usage::Fault(text),
@@ -193,13 +194,32 @@ fn text_without_tip(alloc: Global, text: &str) -> Result<String, AllocError> {
     Ok(kept)
 }
 
-// What the program says of an error of `clap`.
-fn usage_by(alloc: Global, error: &Error) -> Usage
-    ensures { IsUsageOf (kind_of error.now) result }
+// What the program says of an error that `clap` finds in words.
+fn usage_by<S: AsStr>(alloc: Global, words: &[S], error: &Error) -> Usage
+    ensures { IsUsageOf (kind_of error.now) (map S.text words.now) result }
 {
-    match (error.kind(), error.to_string(alloc)) {
-        (ErrorKind::OutOfMemory, _) | (_, Err(_)) => Usage::Memory,
-        (ErrorKind::DisplayHelp | ErrorKind::DisplayVersion, Ok(text)) => Usage::Help(text),
-        (_, Ok(text)) => fault_without_tip(alloc, &text),
+    match error.kind() {
+        ErrorKind::OutOfMemory => Usage::Memory,
+        ErrorKind::DisplayHelp => shown(help_by(alloc, words, error)),
+        ErrorKind::DisplayVersion => shown(version_of(alloc)),
+        _ => fault_by(alloc, error),
+    }
+}
+
+// The help that words ask for, where `clap` finds that they do.
+fn help_by<S: AsStr>(alloc: Global, words: &[S], error: &Error) -> Result<String, AllocError>
+    ensures { IfOk result (λ help. IsHelpFor (map S.text words.now) (string_bytes help)) }
+{
+    let text = error.to_string(alloc)?;
+    help_for(alloc, words, &text)
+}
+
+// What the program says of an error of `clap` that is a fault.
+fn fault_by(alloc: Global, error: &Error) -> Usage
+    ensures { IsFault result }
+{
+    match error.to_string(alloc) {
+        Ok(text) => fault_without_tip(alloc, &text),
+        Err(_) => Usage::Memory,
     }
 }

@@ -5,15 +5,15 @@ ghost use Rattle.clap.specs.declared.builder.Command.TheViews.{out-Command};
 ghost use Rattle.app_command_line.specs.CommandLine.{check, command_line, drive, events, explain, judge, refute, replay, top};
 ghost use Rattle.app_command_line.specs.Steps.Arguments.{app_named, with_argument, with_command};
 
+use crate::abouts;
 use crate::arguments::{
     Argument, all_argument, every_argument, least_reads_argument, progress_argument,
     seals_argument, stop_argument, why_argument, workers_argument,
 };
 use crate::help::{
-    ABOUT, EVENTS, EVENTS_REASON, HTML, LINES, LONG, LONG_PATTERN, LONG_REASON, MANUAL, NAMES,
-    NOTES, SKIP_BLANK, SUMMARY, VERSION,
+    EVENTS, EVENTS_REASON, HTML, LINES, LONG, LONG_PATTERN, LONG_REASON, NAMES, NOTES, SKIP_BLANK,
+    SUMMARY, VERSION,
 };
-use crate::manuals;
 use crate::settings::CommandName;
 use clap::Command;
 use std::alloc::{AllocError, Global};
@@ -41,7 +41,7 @@ pub fn program<'a>(alloc: Global) -> Result<Command<'a>, AllocError>
 fn bare_program<'a>(alloc: Global) -> Command<'a>
     ensures { app_of result ≡ top }
 {
-    plain_command(alloc, "causal_judge", ABOUT, MANUAL)
+    plain_command(alloc, "causal_judge", abouts::PROGRAM)
         .version(VERSION)
         .subcommand_required(true)
 }
@@ -96,26 +96,25 @@ fn command_for<'a>(alloc: Global, name: CommandName) -> Result<Command<'a>, Allo
     }
 }
 
-// A command with these arguments, and with what help says of it.
+// A command with these arguments, and with what help says of it first.
 fn whole_command<'a>(
     alloc: Global,
     name: &'a str,
     about: &'a str,
-    manual: &'a str,
     arguments: &[Argument<'a>],
 ) -> Result<Command<'a>, AllocError>
     ensures app { IfOk result (λ whole. app_of whole ≡ fold with_argument (new_app name.now) arguments.now) }
     ensures local { IfOk result (λ whole. (out-Command whole).has_globals ≡ false) }
 {
-    with_arguments(alloc, plain_command(alloc, name, about, manual), arguments)
+    with_arguments(alloc, plain_command(alloc, name, about), arguments)
 }
 
-// A command without arguments, with what help says of it.
-fn plain_command<'a>(alloc: Global, name: &'a str, about: &'a str, manual: &'a str) -> Command<'a>
+// A command without arguments, with what help says of it first.
+fn plain_command<'a>(alloc: Global, name: &'a str, about: &'a str) -> Command<'a>
     ensures app { app_of result ≡ new_app name.now }
     ensures local { (out-Command result).has_globals ≡ false }
 {
-    Command::new(alloc, name).about(about).after_help(manual)
+    Command::new(alloc, name).about(about)
 }
 
 // The command with these arguments too.
@@ -157,8 +156,7 @@ fn judge_command<'a>(alloc: Global) -> Result<Command<'a>, AllocError>
     whole_command(
         alloc,
         "judge",
-        "Reads a history and judges it",
-        manuals::JUDGE,
+        abouts::JUDGE,
         &[
             workers_argument(),
             Argument::Expect,
@@ -184,8 +182,7 @@ fn check_command<'a>(alloc: Global) -> Result<Command<'a>, AllocError>
     whole_command(
         alloc,
         "check",
-        "Reads a history and a certificate of it, and checks it",
-        manuals::CHECK,
+        abouts::CHECK,
         &[
             workers_argument(),
             why_argument(),
@@ -202,8 +199,7 @@ fn explain_command<'a>(alloc: Global) -> Result<Command<'a>, AllocError>
     whole_command(
         alloc,
         "explain",
-        "Reads a history, and shows why it meets each criterion or does not",
-        manuals::EXPLAIN,
+        abouts::EXPLAIN,
         &[
             Argument::Flag("json", "Shows it as JSON"),
             Argument::Flag(
@@ -231,8 +227,7 @@ fn refute_command<'a>(alloc: Global) -> Result<Command<'a>, AllocError>
     whole_command(
         alloc,
         "refute",
-        "Reads a history, the name of a criterion and a pattern, and checks it",
-        manuals::REFUTE,
+        abouts::REFUTE,
         &[
             Argument::Flag("long", LONG_PATTERN),
             why_argument(),
@@ -249,8 +244,7 @@ fn replay_command<'a>(alloc: Global) -> Result<Command<'a>, AllocError>
     whole_command(
         alloc,
         "replay",
-        "Reads a script of sessions, sealers and workers, and runs it",
-        manuals::REPLAY,
+        abouts::REPLAY,
         &[why_argument(), progress_argument(), Argument::Files],
     )
 }
@@ -262,8 +256,7 @@ fn events_command<'a>(alloc: Global) -> Result<Command<'a>, AllocError>
     whole_command(
         alloc,
         "events",
-        "Reads a log of events, and writes the history that it records",
-        manuals::EVENTS,
+        abouts::EVENTS,
         &[
             Argument::Flag("names", NAMES),
             Argument::Flag("notes", NOTES),
@@ -280,8 +273,7 @@ fn drive_command<'a>(alloc: Global) -> Result<Command<'a>, AllocError>
     whole_command(
         alloc,
         "drive",
-        "Drives a store with the calls of a history, and judges what was recorded",
-        manuals::DRIVE,
+        abouts::DRIVE,
         &[
             Argument::Store,
             Argument::Flag(

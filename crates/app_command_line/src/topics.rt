@@ -1,14 +1,13 @@
 //! The topics that `help` has beside the commands.
 
-ghost use Rattle.std.specs.Prelude.{◌≡◌, ◌⊎◌, IfSome, codes, map};
-ghost use Rattle.app_command_line.specs.CommandLine.{AsksForTopic};
+ghost use Rattle.std.specs.Prelude.{MatchOption, map};
+ghost use Rattle.app_command_line.specs.Shown.{AsksForTopic, IsTopicText, IsTextOf, NamesTopic};
 
 use std::convert::AsStr;
 
 /// The text of the topic that some words ask for, if they ask for one.
-#[tactic(auto, using(crate::proofs::Words::third_word))]
 pub fn topic_in<S: AsStr>(words: &[S]) -> Option<&'static str>
-    ensures { IfSome result (λ _. AsksForTopic (map S.text words.now)) }
+    ensures { MatchOption result (¬ AsksForTopic (map S.text words.now)) (λ text. IsTopicText (map S.text words.now) text.now) }
 {
     match words {
         [_, word, topic] => topic_of(word.as_str(), topic.as_str()),
@@ -18,7 +17,7 @@ pub fn topic_in<S: AsStr>(words: &[S]) -> Option<&'static str>
 
 // The text of the topic that two words ask for.
 fn topic_of(word: &str, topic: &str) -> Option<&'static str>
-    ensures { IfSome result (λ _. (word.now ≡ codes "help") × ((topic.now ≡ codes "forms") ⊎ (topic.now ≡ codes "refusals"))) }
+    ensures { MatchOption result (¬ NamesTopic word.now topic.now) (λ text. IsTextOf word.now topic.now text.now) }
 {
     match word {
         "help" => match topic {
@@ -31,7 +30,7 @@ fn topic_of(word: &str, topic: &str) -> Option<&'static str>
 }
 
 /// The forms of logs and histories.
-const FORMS: &str =
+pub const FORMS: &str =
     r#"A log has an event a line. A KEY, a CLIENT and a VALUE are texts or whole numbers:
 
   ["start",KEY,VALUE]                   the value before the first call
@@ -73,7 +72,7 @@ judge --lines reads a history in each line.
 "#;
 
 /// What refusals, answers and statuses mean.
-const REFUSALS: &str =
+pub const REFUSALS: &str =
     r#"Answers of judge, for causal consistency (cc), causal memory (cm) and causal
 convergence (ccv):
   yes          an order exists that explains what was returned
