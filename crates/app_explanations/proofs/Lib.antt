@@ -1,7 +1,9 @@
 pub mod StepLists
-pub mod EachFinding
+pub mod Reports
+pub mod Agreement
 pub mod EachRemark
 pub mod FindingForms
 pub mod FaultForms
 pub mod Indented
+pub mod CoreLines
 pub mod ListedTexts

@@ -12,12 +12,13 @@ use Rattle.app_command_line.specs.declared.length.Length.TheVariants.{Limited}
 use Rattle.app_findings.specs.declared.finding.Finding.{Finding}
 use Rattle.app_findings.specs.declared.finding.Finding.TheVariants.{Met, Shown, Present, Unexplained}
 use Rattle.app_findings.specs.declared.finding.Findings.{Findings}
-use Rattle.app_findings.specs.Findings.{EachIsFinding, EachKeepsCertificate}
+use Rattle.app_findings.specs.Findings.{EachKeepsCertificate}
 use Rattle.app_explanations.specs.declared.clients.Clients.TheVariants.{Sessions}
 use Rattle.app_explanations.specs.declared.remarks.Remark.{Remark}
 use Rattle.app_explanations.specs.declared.remarks.Remarks.{Remarks}
 use Rattle.app_explanations.specs.Remarks.{EachIsRemark, beside}
 use Rattle.app_explanations.specs.Explaining.{Explanation, IsToldOf, shown_form, word_of}
+use Rattle.app_explanations.specs.Report.{AreFindingsOf}
 
 -- what shows a finding, with the certificate of what is met
 abbrev pub proof_form : Finding → Data
@@ -40,14 +41,14 @@ certified_form findings remarks = list (
 abbrev pub certified_explanation_form : Explanation → Data
 certified_explanation_form said = certified_form said.findings said.remarks
 
--- each finding is one of a history, and has the certificate that may not lack
+-- the findings are those of a history within the limits, and each has the certificate that may not lack
 abbrev pub EachIsEvidence : AnyHistory → Findings → Type 0
-EachIsEvidence history findings = EachIsFinding history findings × EachKeepsCertificate history findings
+EachIsEvidence history findings = AreFindingsOf Limited history findings × EachKeepsCertificate history findings
 
 -- and each remark is one on it
 abbrev pub IsEvidence : AnyHistory → Explanation → Type 0
 IsEvidence history said = EachIsEvidence history said.findings × EachIsRemark Sessions history said.findings said.remarks
 
--- the text explains the history in the input with certificates, by the findings, each of which is one of that history
+-- the text explains the history in the input with certificates, by findings of that history
 abbrev pub IsCertifiedExplanation : List ℕ → List ℕ → Type 0
 IsCertifiedExplanation = IsToldOf Limited certified_explanation_form IsEvidence

@@ -16,13 +16,13 @@ use Rattle.app_command_line.specs.declared.length.Length.TheVariants.{Limited}
 use Rattle.app_findings.specs.declared.finding.Finding.{Finding}
 use Rattle.app_findings.specs.declared.finding.Finding.TheVariants.{Met, Shown, Present, Unexplained}
 use Rattle.app_findings.specs.declared.finding.Findings.{Findings}
-use Rattle.app_findings.specs.Findings.{EachIsFinding}
 use Rattle.app_explanations.specs.declared.clients.Clients.{Clients}
 use Rattle.app_explanations.specs.declared.clients.Clients.TheVariants.{Sessions}
 use Rattle.app_explanations.specs.declared.remarks.Remark.{Remark}
 use Rattle.app_explanations.specs.declared.remarks.Remarks.{Remarks}
 use Rattle.app_explanations.specs.Lengths.{IsHistoryOf}
 use Rattle.app_explanations.specs.Remarks.{EachIsRemark, beside}
+use Rattle.app_explanations.specs.Report.{AreFindingsOf}
 
 -- whether the criterion is met
 abbrev pub word_of : Finding → List ℕ
@@ -57,9 +57,10 @@ pub record Explanation : Type 0 where
 abbrev pub explanation_form : Explanation → Data
 explanation_form said = findings_form said.findings said.remarks
 
--- each finding is one of a history, and each remark is one on it
-abbrev pub IsExplanationOf : Clients → AnyHistory → Explanation → Type 0
-IsExplanationOf clients history said = EachIsFinding history said.findings × EachIsRemark clients history said.findings said.remarks
+-- the findings are those of a history, which may be that long, and each remark is one on its finding
+abbrev pub IsExplanationOf : Length → Clients → AnyHistory → Explanation → Type 0
+IsExplanationOf long clients history said =
+    AreFindingsOf long history said.findings × EachIsRemark clients history said.findings said.remarks
 
 -- the text says what is true of the history in the input, which may be that long: it is the JSON text of what is said, and a line feed
 pub record IsToldOf {T : Type 0} (long : Length) (form : T → Data) (is_so : AnyHistory → T → Type 0) (input text : List ℕ) : Type 0 where
@@ -71,10 +72,9 @@ pub record IsToldOf {T : Type 0} (long : Length) (form : T → Data) (is_so : An
   pub json : IsJson (compact_text (form said)) (form said)
   pub whole : text ≡ compact_text (form said) ++ codes "\n"
 
--- the text explains the history in the input, which may be that long, by findings, each of which is one of that history, and the remarks
--- on them
+-- the text explains the history in the input, which may be that long, by findings of that history and the remarks on them
 abbrev pub IsExplanationAt : Length → List ℕ → List ℕ → Type 0
-IsExplanationAt long = IsToldOf long explanation_form (IsExplanationOf Sessions)
+IsExplanationAt long = IsToldOf long explanation_form (IsExplanationOf long Sessions)
 
 abbrev pub IsExplanation : List ℕ → List ℕ → Type 0
 IsExplanation = IsExplanationAt Limited

@@ -4,8 +4,11 @@ pub mod BrokenGuarantees
 pub mod Remarks
 pub mod Explaining
 pub mod Certifying
+pub mod CoresInWords
 pub mod ExplainingInWords
 pub mod ExplanationTexts
 pub mod Picturing
 pub mod ListingFaults
 pub mod ListTexts
+pub mod Agreeing
+pub mod Steps

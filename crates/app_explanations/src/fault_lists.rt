@@ -1,36 +1,42 @@
 //! Reads of a history that show a fault, in a list.
 
-ghost use Rattle.std.specs.Prelude.{◌≡◌, ◌∷◌, ◌++◌, ℕ, [], codes, option_map, IfOk, OnOk, string_bytes};
+ghost use Rattle.std.specs.Prelude.{◌≡◌, ◌∷◌, ◌+◌, ◌++◌, ◌≤◌, ℕ, [], codes, length, option_map, IfOk, IfSome, OnOk, string_bytes};
 ghost use Rattle.serde_json.specs.View.{view};
 ghost use Rattle.serde_json.specs.Written.{compact_text};
-ghost use Rattle.json_histories.specs.AnyForm.{IsJson};
+ghost use Rattle.json_histories.specs.AnyForm.{IsAnyHistory, IsJson};
 ghost use Rattle.json_histories.specs.Json.{list};
 ghost use Rattle.json_histories.specs.declared.any_history.AnyHistory.{AnyHistory as Whole};
-ghost use Rattle.app_findings.specs.Findings.{EachIsFinding};
+ghost use Rattle.app_command_line.specs.declared.length.Length.{Length};
+ghost use Rattle.app_command_line.specs.declared.length.Length.TheVariants.{Any, Limited};
+ghost use Rattle.app_findings.specs.Findings.{IsFinding, answer_of};
+ghost use Rattle.app_explanations.specs.CoresInWords.{IsTextOfCore, IsTextOfNo};
 ghost use Rattle.app_explanations.specs.ExplainingInWords.{TellsEach};
+ghost use Rattle.app_explanations.specs.Steps.Examining.{history_of};
 ghost use Rattle.app_explanations.specs.declared.clients.Clients.{Clients as Told};
 ghost use Rattle.app_explanations.specs.declared.clients.Clients.TheVariants.{Sessions};
-ghost use Rattle.app_explanations.specs.ListingFaults.{AreFaultsIn, fault_report_form, list_form};
-ghost use Rattle.app_explanations.specs.ListTexts.{AreLinesAfter, IsListBy, IsListInWords, IsListOf, IsLongOf};
+ghost use Rattle.app_explanations.specs.ListingFaults.{AreFaultsIn, AreLinesAfter, OTHER_LINES, fault_report_form, list_form};
+ghost use Rattle.app_explanations.specs.ListTexts.{IsListBy, IsListInWords, IsListOf, IsLongOf};
 ghost use Rattle.app_explanations.specs.Remarks.{EachIsRemark};
+ghost use Rattle.app_explanations.specs.Report.{AreFindingsOf};
 
 use crate::clients::Clients;
 use crate::examined::Examined;
 use crate::finding_forms::findings_value;
 use crate::finding_lines::lines_of_finding;
 use crate::finding_text::{indented_text, text_with_lines};
+use crate::lines::Lines;
 use crate::long_explaining::{LongFindings, findings_of_long};
 use crate::long_words::lines_of_found;
 use crate::remarks::{Remarks, remarks_on, remarks_on_patterns};
 use crate::written::line_of_value;
 use app_command_line::ListForm;
 use app_findings::{Finding, Findings, Kept, PieceWork, findings_of, findings_of_memory};
+use app_judging::Answer;
 use cert_check::Criterion;
 use json_histories::{AnyHistory, History};
 use judge_decision::SessionWork;
 use judge_memory::{LongHistory, LongIndex};
 use judge_reader::small;
-use judge_workers::{WorkerThreads, Workers};
 use model_objects::Memory;
 use order_memory::IndexedMemory;
 use pattern_check::Kind;
@@ -38,8 +44,6 @@ use serde_json::Value;
 use show_faults::{Faults, count_lines, fault_line, faults_value, find_faults};
 use show_words::{Names, OwnNames};
 use std::alloc::{AllocError, Global};
-use std::sync::Wait;
-use std::thread::Threads;
 
 /// Why a history meets each criterion or does not, and its reads that show a fault. There is no list of such reads where values
 /// are not distinct, nor for objects that have no keys to read.
@@ -50,40 +54,52 @@ pub struct FaultReport {
     pub faults: Option<Faults>,
 }
 
-/// The list of a memory history of any length.
+/// The list of a memory history of any length. `work` checks the pieces of certificates, or goes over the sessions.
 ///
 /// Fails for want of memory alone. It costs what the findings cost, and O(n k) for n operations of k sessions.
-pub fn listed_long<T: Threads + Wait + Sync>(
-    rt: &T,
+pub fn listed_long<W: PieceWork + SessionWork>(
+    work: &W,
     alloc: Global,
     history: &LongHistory,
     most: u32,
     form: ListForm,
 ) -> Result<String, AllocError>
-    ensures { IfOk result (λ text. IsListBy Sessions form most (AnyHistory.Memory history.now) (string_bytes text)) }
+    requires can_check { W.can_check work.now }
+    requires can_work { W.can_work work.now }
+    ensures { IfOk result (λ text. IsListBy Any Sessions form most (AnyHistory.Memory history.now) (string_bytes text)) }
 {
-    list_of_long(rt, alloc, history, &OwnNames, Clients::Sessions, most, form)
+    list_of_long(
+        work,
+        alloc,
+        history,
+        &OwnNames,
+        Clients::Sessions,
+        most,
+        form,
+    )
 }
 
 /// The same with these names, whose clients the sessions are of.
 ///
 /// Fails for want of memory alone. The cost is that of [`listed_long`].
-pub fn list_in_long<T: Threads + Wait + Sync, N: Names>(
-    rt: &T,
+pub fn list_in_long<W: PieceWork + SessionWork, N: Names>(
+    work: &W,
     alloc: Global,
     history: &LongHistory,
     names: &N,
     most: u32,
     form: ListForm,
 ) -> Result<String, AllocError>
+    requires can_check { W.can_check work.now }
+    requires can_work { W.can_work work.now }
     ensures { IfOk result (λ text. IsListOf form most (AnyHistory.Memory history.now) (string_bytes text)) }
 {
-    list_of_long(rt, alloc, history, names, Clients::Named, most, form)
+    list_of_long(work, alloc, history, names, Clients::Named, most, form)
 }
 
 // The same, with the sessions those of these clients.
-fn list_of_long<T: Threads + Wait + Sync, N: Names>(
-    rt: &T,
+fn list_of_long<W: PieceWork + SessionWork, N: Names>(
+    work: &W,
     alloc: Global,
     history: &LongHistory,
     names: &N,
@@ -91,47 +107,62 @@ fn list_of_long<T: Threads + Wait + Sync, N: Names>(
     most: u32,
     form: ListForm,
 ) -> Result<String, AllocError>
-    ensures { IfOk result (λ text. IsListBy clients form most (AnyHistory.Memory history.now) (string_bytes text)) }
+    requires can_check { W.can_check work.now }
+    requires can_work { W.can_work work.now }
+    ensures { IfOk result (λ text. IsListBy Any clients form most (AnyHistory.Memory history.now) (string_bytes text)) }
 {
-    let work = WorkerThreads::of(rt, Workers::usual());
     match small(alloc, history)? {
-        Some(small) => {
-            let small = AnyHistory::Memory(small);
-            let text = match form {
-                ListForm::Words => {
-                    words_in_limited(&work, alloc, &small, Some(history), names, most)
-                }
-                ListForm::Json => {
-                    json_in_limited(&work, alloc, &small, Some(history), names, clients, most)
-                }
-            };
-            small.discard();
-            text
-        }
-        None => list_in_larger(&work, alloc, history, names, clients, most, form),
+        Some(small) => { list_in_small(work, alloc, history, small, names, clients, most, form) }
+        None => list_in_larger(work, alloc, history, names, clients, most, form),
     }
+}
+
+// The list of a memory history within the limits.
+fn list_in_small<W: PieceWork, N: Names>(
+    work: &W,
+    alloc: Global,
+    history: &LongHistory,
+    small: History<Memory>,
+    names: &N,
+    clients: Clients,
+    most: u32,
+    form: ListForm,
+) -> Result<String, AllocError>
+    requires can_check { W.can_check work.now }
+    requires same { small ≡ history.now }
+    ensures { IfOk result (λ text. IsListBy Limited clients form most (AnyHistory.Memory small) (string_bytes text)) }
+{
+    let small = AnyHistory::Memory(small);
+    let text = match form {
+        ListForm::Words => words_in_limited(work, alloc, &small, Some(history), names, most),
+        ListForm::Json => {
+            json_in_limited(work, alloc, &small, Some(history), names, clients, most)
+        }
+    };
+    small.discard();
+    text
 }
 
 /// The list of a history within the limits. A memory history is given a second time, as one of any length.
 ///
 /// Fails for want of memory alone. It costs what the findings cost, and O(n k) for n operations of k sessions.
-pub fn list_in_limited<T: Threads + Wait + Sync>(
-    rt: &T,
+pub fn list_in_limited<W: PieceWork>(
+    work: &W,
     alloc: Global,
     history: AnyHistory,
     long: Option<&LongHistory>,
     most: u32,
     form: ListForm,
 ) -> Result<String, AllocError>
-    requires { IsLongOf history (option_map (λ g. g.now) long) }
-    ensures { IfOk result (λ text. IsListBy Sessions form most history (string_bytes text)) }
+    requires can_check { W.can_check work.now }
+    requires long { IsLongOf history (option_map (λ g. g.now) long) }
+    ensures { IfOk result (λ text. IsListBy Limited Sessions form most history (string_bytes text)) }
 {
-    let work = WorkerThreads::of(rt, Workers::usual());
     let text = match form {
-        ListForm::Words => words_in_limited(&work, alloc, &history, long, &OwnNames, most),
+        ListForm::Words => words_in_limited(work, alloc, &history, long, &OwnNames, most),
         ListForm::Json => {
             json_in_limited(
-                &work,
+                work,
                 alloc,
                 &history,
                 long,
@@ -155,7 +186,7 @@ fn words_in_limited<W: PieceWork, N: Names>(
     most: u32,
 ) -> Result<String, AllocError>
     requires { W.can_check work.now }
-    ensures { IfOk result (λ text. IsListInWords history.now (string_bytes text)) }
+    ensures { IfOk result (λ text. IsListInWords Limited most history.now (string_bytes text)) }
 {
     match history {
         AnyHistory::Memory(memory) => words_on_memory(work, alloc, memory, long, names, most),
@@ -179,7 +210,7 @@ fn words_on_memory<W: PieceWork, N: Names>(
     most: u32,
 ) -> Result<String, AllocError>
     requires { W.can_check work.now }
-    ensures { IfOk result (λ text. IsListInWords (AnyHistory.Memory history.now) (string_bytes text)) }
+    ensures { IfOk result (λ text. IsListInWords Limited most (AnyHistory.Memory history.now) (string_bytes text)) }
 {
     let memory = IndexedMemory::of(alloc, history)?;
     let findings = findings_of_memory(work, alloc, &memory, Kept::Reasons)?;
@@ -205,7 +236,7 @@ fn words_on_object<W: PieceWork, N: Names>(
     most: u32,
 ) -> Result<String, AllocError>
     requires { W.can_check work.now }
-    ensures { IfOk result (λ text. IsListInWords history.now (string_bytes text)) }
+    ensures { IfOk result (λ text. IsListInWords Limited most history.now (string_bytes text)) }
 {
     let findings = findings_of(work, alloc, history, Kept::Reasons)?;
     let text = words_on_findings(
@@ -229,12 +260,12 @@ fn words_on_findings<N: Names>(
     findings: &Findings,
     most: u32,
 ) -> Result<String, AllocError>
-    ensures { IfOk result (λ text. AreLinesAfter findings.now (string_bytes text)) }
+    ensures { IfOk result (λ text. AreLinesAfter Limited most (history_of history.entry) findings.now (string_bytes text)) }
 {
     let first = text_in_list(alloc, history, names, findings)?;
     let mut lines = fault_lines_of_any(alloc, long, names, most)?;
-    names.push_remarks(alloc, &mut lines)?;
-    joined(alloc, &first, &lines)
+    push_remark(alloc, names, &mut lines)?;
+    joined(alloc, &first, &lines, most)
 }
 
 // That list as JSON.
@@ -249,7 +280,7 @@ fn json_in_limited<W: PieceWork, N: Names>(
 ) -> Result<String, AllocError>
     requires can_check { W.can_check work.now }
     requires long { IsLongOf history.now (option_map (λ g. g.now) long) }
-    ensures { IfOk result (λ text. IsListBy clients ListForm.Json most history.now (string_bytes text)) }
+    ensures { IfOk result (λ text. IsListBy Limited clients ListForm.Json most history.now (string_bytes text)) }
 {
     let faults = faults_of_any(alloc, history, long, names, most)?;
     let findings = findings_of(work, alloc, history, Kept::Patterns)?;
@@ -267,8 +298,9 @@ fn list_in_larger<W: SessionWork, N: Names>(
     most: u32,
     form: ListForm,
 ) -> Result<String, AllocError>
-    requires { W.can_work work.now }
-    ensures { IfOk result (λ text. IsListBy clients form most (AnyHistory.Memory history.now) (string_bytes text)) }
+    requires can_work { W.can_work work.now }
+    requires over { ¬ IsAnyHistory (AnyHistory.Memory history.now) }
+    ensures { IfOk result (λ text. IsListBy Any clients form most (AnyHistory.Memory history.now) (string_bytes text)) }
 {
     let said = findings_of_long(work, alloc, history)?;
     match form {
@@ -293,12 +325,13 @@ fn words_in_larger<N: Names>(
     said: &LongFindings,
     most: u32,
 ) -> Result<String, AllocError>
-    ensures { IfOk result (λ text. AreLinesAfter said.now.findings (string_bytes text)) }
+    requires { AreFindingsOf Any (AnyHistory.Memory history.now) said.now.findings }
+    ensures { IfOk result (λ text. AreLinesAfter Any most (AnyHistory.Memory history.now) said.now.findings (string_bytes text)) }
 {
     let first = long_text_in_list(alloc, history, names, said)?;
     let mut lines = fault_lines_of(alloc, history, names, most)?;
-    names.push_remarks(alloc, &mut lines)?;
-    joined(alloc, &first, &lines)
+    push_remark(alloc, names, &mut lines)?;
+    joined(alloc, &first, &lines, most)
 }
 
 // That list as JSON.
@@ -310,8 +343,8 @@ fn json_in_larger<N: Names>(
     findings: Findings,
     most: u32,
 ) -> Result<String, AllocError>
-    requires { EachIsFinding (AnyHistory.Memory history.now) findings }
-    ensures { IfOk result (λ text. IsListBy clients ListForm.Json most (AnyHistory.Memory history.now) (string_bytes text)) }
+    requires { AreFindingsOf Any (AnyHistory.Memory history.now) findings }
+    ensures { IfOk result (λ text. IsListBy Any clients ListForm.Json most (AnyHistory.Memory history.now) (string_bytes text)) }
 {
     match faults_of(alloc, history, names, most) {
         Ok(faults) => {
@@ -326,15 +359,18 @@ fn json_in_larger<N: Names>(
 }
 
 // The text of findings, and lines after it.
-fn joined(alloc: Global, first: &str, lines: &[String]) -> Result<String, AllocError>
-    ensures { IfOk result (λ text. (findings : Findings) → TellsEach findings first.now
-        → AreLinesAfter findings (string_bytes text)) }
+#[tactic(auto, using(crate::proofs::ListedTexts::lines_after))]
+fn joined(alloc: Global, first: &str, lines: &[String], _most: u32) -> Result<String, AllocError>
+    requires { length lines.now ≤ _most + OTHER_LINES }
+    ensures { IfOk result (λ text. (long : Length) (history : Whole) (findings : Findings)
+        → TellsEach long history findings first.now → AreLinesAfter long _most history findings (string_bytes text)) }
 {
     let rest = indented_text(alloc, lines)?;
     format!(in alloc; "{first}{rest}")
 }
 
 // The faults of a memory history.
+#[tactic(auto, using(crate::proofs::ListedTexts::first_faults))]
 fn faults_of<N: Names>(
     alloc: Global,
     history: &LongHistory,
@@ -367,13 +403,32 @@ fn faults_of_any<N: Names>(
     }
 }
 
+// Adds the remark of the names, if they make one: the first where they make more.
+fn push_remark<N: Names>(
+    alloc: Global,
+    names: &N,
+    lines: &mut Vec<String>,
+) -> Result<(), AllocError>
+    ensures { OnOk result (length lines.new.items ≤ length lines.old.items + 1) }
+{
+    let mut remarks = Vec::new(alloc);
+    names.push_remarks(alloc, &mut remarks)?;
+    remarks.truncate(1);
+    if let Some(remark) = remarks.pop() {
+        lines.push(remark)?;
+    }
+    Ok(())
+}
+
 // The lines on the faults of a history of any object.
 fn fault_lines_of_any<N: Names>(
     alloc: Global,
     long: Option<&LongHistory>,
     names: &N,
     most: u32,
-) -> Result<Vec<String>, AllocError> {
+) -> Result<Vec<String>, AllocError>
+    ensures { IfOk result (λ lines. length lines.items ≤ most + 25) }
+{
     match long {
         Some(long) => fault_lines_of(alloc, long, names, most),
         None => one_line(alloc, "No faults of single reads are known of this object."),
@@ -386,7 +441,9 @@ fn fault_lines_of<N: Names>(
     history: &LongHistory,
     names: &N,
     most: u32,
-) -> Result<Vec<String>, AllocError> {
+) -> Result<Vec<String>, AllocError>
+    ensures { IfOk result (λ lines. length lines.items ≤ most + 25) }
+{
     let Some(index) = LongIndex::of(alloc, history)? else {
         return one_line(
             alloc,
@@ -404,16 +461,36 @@ fn lines_of_index<N: Names>(
     index: &LongIndex,
     names: &N,
     most: u32,
-) -> Result<Vec<String>, AllocError> {
+) -> Result<Vec<String>, AllocError>
+    ensures { IfOk result (λ lines. length lines.items ≤ most + 25) }
+{
     let found = find_faults(alloc, index, names, most as usize)?;
     let mut lines = count_lines(alloc, names, &found)?;
-    for (place, fault) in found.listed.iter().enumerate() {
-        lines.push(fault_line(alloc, index, names, fault, found.broken.at(place))?)?;
-    }
+    push_faults(alloc, index, names, &found, &mut lines)?;
     Ok(lines)
 }
 
-fn one_line(alloc: Global, words: &'static str) -> Result<Vec<String>, AllocError> {
+// Adds a line for each fault that is listed.
+fn push_faults<N: Names>(
+    alloc: Global,
+    index: &LongIndex,
+    names: &N,
+    found: &Faults,
+    lines: &mut Vec<String>,
+) -> Result<(), AllocError>
+    ensures { OnOk result (length lines.new.items ≤ length lines.old.items + length found.now.listed.items) }
+{
+    let mut place: usize = 0;
+    for fault in &found.listed {
+        lines.push(fault_line(alloc, index, names, fault, found.broken.at(place))?)?;
+        place = place.saturating_add(1);
+    }
+    Ok(())
+}
+
+fn one_line(alloc: Global, words: &'static str) -> Result<Vec<String>, AllocError>
+    ensures { IfOk result (λ lines. length lines.items ≡ 1) }
+{
     let mut lines = Vec::new(alloc);
     lines.push(String::from_str(alloc, words)?)?;
     Ok(lines)
@@ -426,9 +503,9 @@ fn text_of_parts(
     remarks: Result<Remarks, AllocError>,
     faults: Option<Faults>,
 ) -> Result<String, AllocError>
-    ensures { (clients : Told) (most : ℕ) (history : Whole) → EachIsFinding history findings
+    ensures { (long : Length) (clients : Told) (most : ℕ) (history : Whole) → AreFindingsOf long history findings
         → IfOk remarks (EachIsRemark clients history findings) → AreFaultsIn most history faults
-        → IfOk result (λ text. IsListBy clients ListForm.Json most history (string_bytes text)) }
+        → IfOk result (λ text. IsListBy long clients ListForm.Json most history (string_bytes text)) }
 {
     match remarks {
         Ok(remarks) => {
@@ -486,7 +563,7 @@ fn text_in_list<N: Names>(
     names: &N,
     said: &Findings,
 ) -> Result<String, AllocError>
-    ensures { IfOk result (λ text. TellsEach said.now (string_bytes text)) }
+    ensures { IfOk result (λ text. TellsEach Limited (history_of history.entry) said.now (string_bytes text)) }
 {
     let lines = lines_in_list(alloc, history, names, Criterion::Cc, &said.cc, None)?;
     let cc = text_with_lines(alloc, Criterion::Cc, &said.cc, &lines)?;
@@ -506,11 +583,13 @@ fn lines_in_list<N: Names>(
     criterion: Criterion,
     finding: &Finding,
     before: Option<Kind>,
-) -> Result<Vec<String>, AllocError> {
+) -> Result<Lines, AllocError>
+    ensures { IfOk result (λ lines. IfSome lines.core (λ t. IsTextOfCore Limited (history_of history.entry) criterion (string_bytes t))) }
+{
     if is_shown_apart(finding, before) {
         lines_of_finding(alloc, history, names, criterion, finding)
     } else {
-        Ok(Vec::new(alloc))
+        Ok(Lines::none(alloc))
     }
 }
 
@@ -521,38 +600,70 @@ fn long_text_in_list<N: Names>(
     names: &N,
     said: &LongFindings,
 ) -> Result<String, AllocError>
-    ensures { IfOk result (λ text. TellsEach said.now.findings (string_bytes text)) }
+    requires { AreFindingsOf Any (AnyHistory.Memory history.now) said.now.findings }
+    ensures { IfOk result (λ text. TellsEach Any (AnyHistory.Memory history.now) said.now.findings (string_bytes text)) }
 {
     let findings = &said.findings;
-    let lines = long_lines_in_list(alloc, history, names, said, &findings.cc, None)?;
+    let lines = long_lines_in_list(
+        alloc,
+        history,
+        names,
+        said,
+        Criterion::Cc,
+        &findings.cc,
+        None,
+    )?;
     let cc = text_with_lines(alloc, Criterion::Cc, &findings.cc, &lines)?;
     let before = kind_in(&findings.cc);
-    let lines = long_lines_in_list(alloc, history, names, said, &findings.cm, before)?;
+    let lines = long_lines_in_list(
+        alloc,
+        history,
+        names,
+        said,
+        Criterion::Cm,
+        &findings.cm,
+        before,
+    )?;
     let cm = text_with_lines(alloc, Criterion::Cm, &findings.cm, &lines)?;
-    let lines = long_lines_in_list(alloc, history, names, said, &findings.ccv, before)?;
+    let lines = long_lines_in_list(
+        alloc,
+        history,
+        names,
+        said,
+        Criterion::Ccv,
+        &findings.ccv,
+        before,
+    )?;
     let ccv = text_with_lines(alloc, Criterion::Ccv, &findings.ccv, &lines)?;
     format!(in alloc; "{cc}{cm}{ccv}")
 }
 
 // The lines of a finding on a history over the limits, as above.
+#[tactic(auto, using(crate::proofs::CoreLines::finding_against))]
 fn long_lines_in_list<N: Names>(
     alloc: Global,
     history: &LongHistory,
     names: &N,
     said: &LongFindings,
+    criterion: Criterion,
     finding: &Finding,
     before: Option<Kind>,
-) -> Result<Vec<String>, AllocError> {
+) -> Result<Lines, AllocError>
+    requires { IsFinding (AnyHistory.Memory history.now) criterion finding.now }
+    ensures { IfOk result (λ lines. IfSome lines.core (λ t. IsTextOfNo criterion (string_bytes t))) }
+{
     match kind_in(finding) {
         Some(kind) if is_shown_apart(finding, before) => {
-            lines_of_found(alloc, history, names, said, kind)
+            lines_of_found(alloc, history, names, said, criterion, kind)
         }
-        _ => Ok(Vec::new(alloc)),
+        _ => Ok(Lines::none(alloc)),
     }
 }
 
 // The kind of a finding that is a no.
-fn kind_in(finding: &Finding) -> Option<Kind> {
+fn kind_in(finding: &Finding) -> Option<Kind>
+    ensures { IfSome result (λ kind. answer_of finding.now ≡ Answer.No kind) }
+{
     match finding {
         Finding::Shown(pattern) => Some(pattern.kind()),
         Finding::Present(kind) => Some(*kind),

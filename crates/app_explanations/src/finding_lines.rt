@@ -1,7 +1,13 @@
 //! The lines that say why a criterion is met, not met, or unknown.
 
+ghost use Rattle.std.specs.Prelude.{◌≡◌, IfOk, IfSome, None, string_bytes};
+ghost use Rattle.app_command_line.specs.declared.length.Length.TheVariants.{Limited};
+ghost use Rattle.app_explanations.specs.CoresInWords.{IsTextOfCore};
+ghost use Rattle.app_explanations.specs.Steps.Examining.{history_of};
+
 use crate::examined::Examined;
-use crate::part_lines::{lines_with_core, push_without_variables};
+use crate::lines::Lines;
+use crate::part_lines::{lines_with_core, lines_without_variables};
 use app_findings::Finding;
 use cert_check::{Certificate, Criterion};
 use json_histories::{AnyHistory, History, OpId};
@@ -16,8 +22,7 @@ const CERTIFIED: &str =
 
 /// The lines that say why a history meets a criterion, does not, or why that is not known.
 ///
-/// The lines promise nothing, except for the parts of the history in them: each is judged by itself before it is written. Fails for
-/// want of memory alone. The cost is that of the words and the core of a pattern, of a certificate where a memory meets causal memory,
+/// The words promise nothing. A core is judged by itself before it is written. Fails for want of memory alone. The cost is that of the words and the core of a pattern, of a certificate where a memory meets causal memory,
 /// of the piece that a certificate does not explain, and of the history without the variables whose values are not distinct.
 pub(crate) fn lines_of_finding<N: Names>(
     alloc: Global,
@@ -25,12 +30,14 @@ pub(crate) fn lines_of_finding<N: Names>(
     names: &N,
     criterion: Criterion,
     finding: &Finding,
-) -> Result<Vec<String>, AllocError> {
+) -> Result<Lines, AllocError>
+    ensures { IfOk result (λ lines. IfSome lines.core (λ t. IsTextOfCore Limited (history_of history.entry) criterion (string_bytes t))) }
+{
     match finding {
         Finding::Met(Some(_)) => one_line(alloc, CERTIFIED),
         Finding::Met(None) => lines_of_met(alloc, history, criterion),
         Finding::Shown(pattern) => lines_of_pattern(alloc, history, names, criterion, pattern),
-        Finding::Present(kind) => lines_of_kind(alloc, *kind),
+        Finding::Present(kind) => line_of_kind(alloc, *kind),
         Finding::Unexplained(Some(op), certificate) => {
             let shown = Some((*op, certificate.as_ref()));
             lines_of_unknown(alloc, history, names, criterion, shown)
@@ -44,7 +51,9 @@ fn lines_of_met(
     alloc: Global,
     history: Examined<'_, '_>,
     criterion: Criterion,
-) -> Result<Vec<String>, AllocError> {
+) -> Result<Lines, AllocError>
+    ensures { IfOk result (λ lines. lines.core ≡ None) }
+{
     let words = if has_certificate(alloc, history, criterion)? {
         CERTIFIED
     } else {
@@ -67,11 +76,11 @@ fn has_certificate(
     }
 }
 
-// One line, as a list.
-fn one_line(alloc: Global, words: &'static str) -> Result<Vec<String>, AllocError> {
-    let mut lines = Vec::new(alloc);
-    lines.push(String::from_str(alloc, words)?)?;
-    Ok(lines)
+// One line.
+fn one_line(alloc: Global, words: &'static str) -> Result<Lines, AllocError>
+    ensures { IfOk result (λ lines. lines.core ≡ None) }
+{
+    Lines::of_line(alloc, String::from_str(alloc, words)?)
 }
 
 // The lines on a pattern. Only memories have known patterns.
@@ -81,23 +90,28 @@ fn lines_of_pattern<N: Names>(
     names: &N,
     criterion: Criterion,
     pattern: &Pattern,
-) -> Result<Vec<String>, AllocError> {
+) -> Result<Lines, AllocError>
+    ensures { IfOk result (λ lines. IfSome lines.core (λ t. IsTextOfCore Limited (history_of history.entry) criterion (string_bytes t))) }
+{
     match history {
         Examined::Memory(memory) => {
             lines_with_core(alloc, memory.history(), names, criterion, pattern)
         }
-        Examined::Object(_) => lines_of_kind(alloc, pattern.kind()),
+        Examined::Object(_) => line_of_kind(alloc, pattern.kind()),
     }
 }
 
-/// The lines on a kind, without its pattern.
-pub(crate) fn lines_of_kind(alloc: Global, kind: Kind) -> Result<Vec<String>, AllocError> {
+/// The line on a kind, without its pattern.
+pub(crate) fn line_of_kind(alloc: Global, kind: Kind) -> Result<Lines, AllocError>
+    ensures { IfOk result (λ lines. lines.core ≡ None) }
+{
+    Lines::of_line(alloc, words_of_kind(alloc, kind)?)
+}
+
+/// The words on a kind, without its pattern.
+pub(crate) fn words_of_kind(alloc: Global, kind: Kind) -> Result<String, AllocError> {
     let kind = kind.name();
-    let mut lines = Vec::new(alloc);
-    lines.push(format!(in alloc;
-        "A pattern of the kind {kind} is there, which might be too long to write."
-    )?)?;
-    Ok(lines)
+    format!(in alloc; "A pattern of the kind {kind} is there, which might be too long to write.")
 }
 
 // The lines on what is not known, with the first operation that the certificate that was made does not explain.
@@ -107,7 +121,9 @@ fn lines_of_unknown<N: Names>(
     names: &N,
     criterion: Criterion,
     shown: Option<(OpId, Option<&Certificate>)>,
-) -> Result<Vec<String>, AllocError> {
+) -> Result<Lines, AllocError>
+    ensures { IfOk result (λ lines. IfSome lines.core (λ t. IsTextOfCore Limited (history_of history.entry) criterion (string_bytes t))) }
+{
     match history {
         Examined::Memory(memory) => lines_of_memory(alloc, memory, names, criterion, shown),
         Examined::Object(history) => lines_of_object(alloc, history, names, shown),
@@ -122,16 +138,17 @@ fn lines_of_memory<N: Names>(
     names: &N,
     criterion: Criterion,
     shown: Option<(OpId, Option<&Certificate>)>,
-) -> Result<Vec<String>, AllocError> {
-    let mut lines = words_of_repeated_values(alloc, memory, names)?;
+) -> Result<Lines, AllocError>
+    ensures { IfOk result (λ lines. IfSome lines.core (λ t. IsTextOfCore Limited (AnyHistory.Memory memory.now) criterion (string_bytes t))) }
+{
+    let mut words = words_of_repeated_values(alloc, memory, names)?;
     push_line(
         alloc,
-        &mut lines,
+        &mut words,
         "So a read does not tell its write: only a certificate can decide, and only for a yes.",
     )?;
-    push_certificate(alloc, &mut lines, memory.history(), names, shown)?;
-    push_without_variables(alloc, &mut lines, memory, names, criterion)?;
-    Ok(lines)
+    push_certificate(alloc, &mut words, memory.history(), names, shown)?;
+    lines_without_variables(alloc, words, memory, names, criterion)
 }
 
 // The lines on what is not known of an object that has no patterns.
@@ -140,13 +157,17 @@ fn lines_of_object<N: Names>(
     history: &AnyHistory,
     names: &N,
     shown: Option<(OpId, Option<&Certificate>)>,
-) -> Result<Vec<String>, AllocError> {
-    let mut lines = one_line(
+) -> Result<Lines, AllocError>
+    ensures { IfOk result (λ lines. lines.core ≡ None) }
+{
+    let mut words = Vec::new(alloc);
+    push_line(
         alloc,
+        &mut words,
         "No patterns are known of this object: only a certificate can decide, and only for a yes.",
     )?;
-    push_certificate_of_any(alloc, &mut lines, history, names, shown)?;
-    Ok(lines)
+    push_certificate_of_any(alloc, &mut words, history, names, shown)?;
+    Ok(Lines::of_words(alloc, words))
 }
 
 // Adds what the certificate that was made of a history of any object does not explain.

@@ -2,9 +2,10 @@
 
 ghost use Rattle.std.specs.Prelude.{IfOk, string_bytes};
 ghost use Rattle.show_pictures.specs.Markup.{IsSvgElement};
-ghost use Rattle.app_findings.specs.Findings.{EachIsFinding};
+ghost use Rattle.app_command_line.specs.declared.length.Length.TheVariants.{Limited};
 ghost use Rattle.app_explanations.specs.Certifying.{EachIsEvidence};
 ghost use Rattle.app_explanations.specs.ExplanationTexts.{IsCertifiedJsonOf, IsJsonOf};
+ghost use Rattle.app_explanations.specs.Report.{AreFindingsOf};
 
 use crate::clients::Clients;
 use crate::finding_forms::{certified_text, findings_text};
@@ -25,7 +26,7 @@ pub fn json_of_history<W: PieceWork>(
     history: &AnyHistory,
 ) -> Result<String, AllocError>
     requires { W.can_check work.now }
-    ensures { IfOk result (λ text. IsJsonOf Clients.Sessions history.now (string_bytes text)) }
+    ensures { IfOk result (λ text. IsJsonOf Limited Clients.Sessions history.now (string_bytes text)) }
 {
     json_with_names(work, alloc, history, &OwnNames, Clients::Sessions)
 }
@@ -39,7 +40,7 @@ pub(crate) fn json_with_names<W: PieceWork, N: Names>(
     clients: Clients,
 ) -> Result<String, AllocError>
     requires { W.can_check work.now }
-    ensures { IfOk result (λ text. IsJsonOf clients history.now (string_bytes text)) }
+    ensures { IfOk result (λ text. IsJsonOf Limited clients history.now (string_bytes text)) }
 {
     let findings = findings_of(work, alloc, history, Kept::Patterns)?;
     let text = json_of_findings(alloc, history, names, clients, &findings);
@@ -55,8 +56,8 @@ fn json_of_findings<N: Names>(
     clients: Clients,
     findings: &Findings,
 ) -> Result<String, AllocError>
-    requires { EachIsFinding history.now findings.now }
-    ensures { IfOk result (λ text. IsJsonOf clients history.now (string_bytes text)) }
+    requires { AreFindingsOf Limited history.now findings.now }
+    ensures { IfOk result (λ text. IsJsonOf Limited clients history.now (string_bytes text)) }
 {
     let remarks = remarks_on(alloc, history, names, clients, findings)?;
     let text = findings_text(alloc, findings, &remarks);

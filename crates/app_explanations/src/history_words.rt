@@ -1,8 +1,10 @@
 //! What is found of a history within the limits, in words.
 
 ghost use Rattle.std.specs.Prelude.{IfOk, string_bytes};
+ghost use Rattle.app_command_line.specs.declared.length.Length.TheVariants.{Limited};
 ghost use Rattle.app_explanations.specs.ExplainingInWords.{TellsEach};
 ghost use Rattle.app_explanations.specs.ExplanationTexts.{IsWordsOf};
+ghost use Rattle.app_explanations.specs.Steps.Examining.{history_of};
 
 use crate::examined::Examined;
 use crate::finding_lines::lines_of_finding;
@@ -26,7 +28,7 @@ pub fn words_of_history<W: PieceWork>(
     history: &AnyHistory,
 ) -> Result<String, AllocError>
     requires { W.can_check work.now }
-    ensures { IfOk result (λ text. IsWordsOf history.now (string_bytes text)) }
+    ensures { IfOk result (λ text. IsWordsOf Limited history.now (string_bytes text)) }
 {
     match history {
         AnyHistory::Memory(memory) => words_of_memory(work, alloc, memory),
@@ -47,7 +49,7 @@ fn words_of_memory<W: PieceWork>(
     history: &History<Memory>,
 ) -> Result<String, AllocError>
     requires { W.can_check work.now }
-    ensures { IfOk result (λ text. IsWordsOf (AnyHistory.Memory history.now) (string_bytes text)) }
+    ensures { IfOk result (λ text. IsWordsOf Limited (AnyHistory.Memory history.now) (string_bytes text)) }
 {
     let memory = IndexedMemory::of(alloc, history)?;
     let findings = findings_of_memory(work, alloc, &memory, Kept::Reasons)?;
@@ -63,7 +65,7 @@ fn words_of_object<W: PieceWork>(
     history: &AnyHistory,
 ) -> Result<String, AllocError>
     requires { W.can_check work.now }
-    ensures { IfOk result (λ text. IsWordsOf history.now (string_bytes text)) }
+    ensures { IfOk result (λ text. IsWordsOf Limited history.now (string_bytes text)) }
 {
     let findings = findings_of(work, alloc, history, Kept::Reasons)?;
     let text = text_of_examined(alloc, Examined::Object(history), &findings);
@@ -77,7 +79,7 @@ fn text_of_examined(
     history: Examined<'_, '_>,
     findings: &Findings,
 ) -> Result<String, AllocError>
-    ensures { IfOk result (λ text. TellsEach findings.now (string_bytes text)) }
+    ensures { IfOk result (λ text. TellsEach Limited (history_of history.entry) findings.now (string_bytes text)) }
 {
     let lines = FindingLines {
         cc: lines_of_finding(alloc, history, &OwnNames, Criterion::Cc, &findings.cc)?,

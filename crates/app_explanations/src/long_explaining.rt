@@ -1,10 +1,16 @@
 //! Why a memory history of any length meets each criterion, or does not.
 
 ghost use Rattle.std.specs.Prelude.{◌≡◌, IfOk, IfSome, IsTrue};
+ghost use Rattle.json_histories.specs.AnyForm.{IsAnyHistory};
+ghost use Rattle.order_memory.specs.Memory.{IsDifferentiated, MemoryHistory};
 ghost use Rattle.pattern_check.specs.Patterns.{IsShownBy, kind_of};
 ghost use Rattle.judge_decision.specs.LongDecisions.{AreDecided, IsLongDecided};
-ghost use Rattle.app_findings.specs.Findings.{EachIsFinding, IsFinding};
+ghost use Rattle.app_command_line.specs.declared.length.Length.TheVariants.{Any};
+ghost use Rattle.app_explanations.specs.Report.{AreFindingsOf};
+ghost use Rattle.app_explanations.specs.Steps.Gathering.{ExcludesCriteria};
+ghost use Rattle.app_explanations.specs.Steps.LongFound.{IsLongFound};
 
+use crate::found::Found;
 use app_findings::{Finding, Findings};
 use cert_check::Criterion;
 use json_histories::AnyHistory;
@@ -12,6 +18,7 @@ use judge_cores::{Gathered, core_of_kind};
 use judge_decision::{LongDecision, LongDecisions, SessionWork, decide_indexed};
 use judge_memory::{LongHistory, LongIndex};
 use judge_patterns::is_shown_in_long;
+use pattern_check::laws::bad_patterns_exclude_criteria;
 use pattern_check::{Kind, Pattern};
 use std::alloc::{AllocError, Global};
 
@@ -22,21 +29,16 @@ pub(crate) struct LongFindings {
     pub found: Vec<Found>,
 }
 
-/// A kind that a long history shows, and the operations that were gathered of it.
-#[derive(Drop)]
-pub(crate) struct Found {
-    pub kind: Kind,
-    pub gathered: Gathered,
-}
-
 impl LongFindings {
     /// What was gathered of a kind.
-    pub(crate) fn gathered(&self, kind: Kind) -> Option<&Gathered> {
+    pub(crate) fn gathered(&self, kind: Kind) -> Option<&Gathered>
+        ensures { IfSome result (λ gathered. ExcludesCriteria kind gathered.now) }
+    {
         gathered_of(&self.found, kind)
     }
 }
 
-/// Why a memory history of any length meets each criterion or does not, or why that is unknown.
+/// Why a memory history over the limits meets each criterion or does not, or why that is unknown.
 ///
 /// A `no` has a pattern if few operations show it by themselves: these are judged as a history of their own, and the pattern that is
 /// found there is tested in the whole. Else the `no` has its kind. Unknown, with no operation, exactly where values are not distinct.
@@ -47,31 +49,41 @@ pub(crate) fn findings_of_long<W: SessionWork>(
     alloc: Global,
     history: &LongHistory,
 ) -> Result<LongFindings, AllocError>
-    requires { W.can_work work.now }
-    ensures { IfOk result (λ said. EachIsFinding (AnyHistory.Memory history.now) said.findings) }
+    requires can_work { W.can_work work.now }
+    requires over { ¬ IsAnyHistory (AnyHistory.Memory history.now) }
+    ensures { IfOk result (λ said. AreFindingsOf Any (AnyHistory.Memory history.now) said.findings) }
 {
     match LongIndex::of(alloc, history)? {
         Some(index) => findings_of_indexed(work, alloc, &index),
         None => Ok(LongFindings {
-            findings: Findings {
-                cc: Finding::Unexplained(None, None),
-                cm: Finding::Unexplained(None, None),
-                ccv: Finding::Unexplained(None, None),
-            },
+            findings: nothing_known(),
             found: Vec::new(alloc),
         }),
     }
 }
 
+// The findings where values are not distinct.
+fn nothing_known() -> Findings
+    ensures { (h : MemoryHistory) → ¬ IsDifferentiated h → ¬ IsAnyHistory (AnyHistory.Memory h)
+        → AreFindingsOf Any (AnyHistory.Memory h) result }
+{
+    Findings {
+        cc: Finding::Unexplained(None, None),
+        cm: Finding::Unexplained(None, None),
+        ccv: Finding::Unexplained(None, None),
+    }
+}
+
 // The same of a history of distinct values.
-#[tactic(auto, using(crate::proofs::EachFinding::each_finding))]
+#[tactic(auto, using(crate::proofs::Reports::long_findings))]
 fn findings_of_indexed<W: SessionWork>(
     work: &W,
     alloc: Global,
     index: &LongIndex,
 ) -> Result<LongFindings, AllocError>
-    requires { W.can_work work.now }
-    ensures { IfOk result (λ said. EachIsFinding (AnyHistory.Memory index.now.history) said.findings) }
+    requires can_work { W.can_work work.now }
+    requires over { ¬ IsAnyHistory (AnyHistory.Memory index.now.history) }
+    ensures { IfOk result (λ said. AreFindingsOf Any (AnyHistory.Memory index.now.history) said.findings) }
 {
     let decisions = decide_indexed(work, alloc, index)?;
     let found = found_of(alloc, index, &decisions)?;
@@ -101,6 +113,7 @@ fn found_of(
 }
 
 // Gathers the kind that a decision names, unless it was gathered before.
+#[tactic(auto, using(crate::proofs::CoreLines::core_excludes))]
 fn push_found(
     alloc: Global,
     index: &LongIndex,
@@ -108,6 +121,7 @@ fn push_found(
     decision: LongDecision,
     found: &mut Vec<Found>,
 ) -> Result<(), AllocError> {
+    bad_patterns_exclude_criteria();
     if let LongDecision::ExcludedBy(kind) = decision
         && gathered_of(found, kind).is_none()
     {
@@ -118,7 +132,9 @@ fn push_found(
 }
 
 // What was gathered of a kind.
-fn gathered_of(found: &[Found], kind: Kind) -> Option<&Gathered> {
+fn gathered_of(found: &[Found], kind: Kind) -> Option<&Gathered>
+    ensures { IfSome result (λ gathered. ExcludesCriteria kind gathered.now) }
+{
     for one in found {
         if one.kind == kind {
             return Some(&one.gathered);
@@ -128,6 +144,7 @@ fn gathered_of(found: &[Found], kind: Kind) -> Option<&Gathered> {
 }
 
 // The finding of a decision.
+#[tactic(auto, using(crate::proofs::Reports::long_met, crate::proofs::Reports::long_shown, crate::proofs::Reports::long_present, crate::proofs::Reports::long_open))]
 fn finding_of(
     alloc: Global,
     index: &LongIndex,
@@ -136,7 +153,7 @@ fn finding_of(
     found: &[Found],
 ) -> Result<Finding, AllocError>
     requires { IsLongDecided index.now.history criterion decision }
-    ensures { IfOk result (IsFinding (AnyHistory.Memory index.now.history) criterion) }
+    ensures { IfOk result (IsLongFound index.now.history criterion) }
 {
     index.value_is_indexed();
     match decision {

@@ -1,11 +1,19 @@
 //! The words that say why a memory history of any length meets each criterion, or does not.
 
-ghost use Rattle.std.specs.Prelude.{IfOk, string_bytes};
+ghost use Rattle.std.specs.Prelude.{◌≡◌, IfOk, IfSome, IsTrue, None, string_bytes};
+ghost use Rattle.json_histories.specs.AnyForm.{IsJson, form_of};
+ghost use Rattle.pattern_check.specs.Kinds.{is_against};
+ghost use Rattle.app_command_line.specs.declared.length.Length.TheVariants.{Any, Limited};
+ghost use Rattle.app_findings.specs.Findings.{IsFinding};
+ghost use Rattle.app_explanations.specs.CoresInWords.{IsTextOfCore, IsTextOfNo};
 ghost use Rattle.app_explanations.specs.ExplainingInWords.{TellsEach};
+ghost use Rattle.app_explanations.specs.Report.{AreFindingsOf};
+ghost use Rattle.app_explanations.specs.Steps.Examining.{history_of};
 
 use crate::core_names::CoreNames;
 use crate::examined::Examined;
-use crate::finding_lines::{lines_of_finding, lines_of_kind};
+use crate::finding_lines::{line_of_kind, lines_of_finding, words_of_kind};
+use crate::lines::Lines;
 use crate::long_explaining::LongFindings;
 use crate::long_repeated::push_repeated;
 use crate::three_findings::{FindingLines, text_of_findings};
@@ -30,7 +38,8 @@ pub(crate) fn text_of_long<N: Names>(
     names: &N,
     said: &LongFindings,
 ) -> Result<String, AllocError>
-    ensures { IfOk result (λ text. TellsEach said.now.findings (string_bytes text)) }
+    requires { AreFindingsOf Any (AnyHistory.Memory history.now) said.now.findings }
+    ensures { IfOk result (λ text. TellsEach Any (AnyHistory.Memory history.now) said.now.findings (string_bytes text)) }
 {
     let findings = &said.findings;
     let lines = FindingLines {
@@ -42,6 +51,7 @@ pub(crate) fn text_of_long<N: Names>(
 }
 
 // The lines on one finding.
+#[tactic(auto, using(crate::proofs::CoreLines::finding_against))]
 fn lines_of_long_finding<N: Names>(
     alloc: Global,
     history: &LongHistory,
@@ -49,11 +59,16 @@ fn lines_of_long_finding<N: Names>(
     said: &LongFindings,
     criterion: Criterion,
     finding: &Finding,
-) -> Result<Vec<String>, AllocError> {
+) -> Result<Lines, AllocError>
+    requires { IsFinding (AnyHistory.Memory history.now) criterion finding.now }
+    ensures { IfOk result (λ lines. IfSome lines.core (λ t. IsTextOfNo criterion (string_bytes t))) }
+{
     match finding {
         Finding::Met(_) => lines_of_yes(alloc, history, names, criterion),
-        Finding::Shown(pattern) => lines_of_found(alloc, history, names, said, pattern.kind()),
-        Finding::Present(kind) => lines_of_found(alloc, history, names, said, *kind),
+        Finding::Shown(pattern) => {
+            lines_of_found(alloc, history, names, said, criterion, pattern.kind())
+        }
+        Finding::Present(kind) => lines_of_found(alloc, history, names, said, criterion, *kind),
         Finding::Unexplained(_, _) => lines_of_repeated(alloc, history, names),
     }
 }
@@ -64,11 +79,15 @@ fn lines_of_yes<N: Names>(
     history: &LongHistory,
     names: &N,
     criterion: Criterion,
-) -> Result<Vec<String>, AllocError> {
+) -> Result<Lines, AllocError>
+    ensures { IfOk result (λ lines. lines.core ≡ None) }
+{
     let operations = history.operations();
-    let mut lines = Vec::new(alloc);
-    lines.push(words_of_long_yes(alloc, names, criterion, operations, history.sessions())?)?;
-    Ok(lines)
+    let sessions = history.sessions();
+    Lines::of_line(
+        alloc,
+        words_of_long_yes(alloc, names, criterion, operations, sessions)?,
+    )
 }
 
 // The lines on values that are not distinct.
@@ -76,36 +95,44 @@ fn lines_of_repeated<N: Names>(
     alloc: Global,
     history: &LongHistory,
     names: &N,
-) -> Result<Vec<String>, AllocError> {
-    let mut lines = Vec::new(alloc);
+) -> Result<Lines, AllocError>
+    ensures { IfOk result (λ lines. lines.core ≡ None) }
+{
+    let mut words = Vec::new(alloc);
     if names.tells_more() {
-        push_repeated(alloc, &mut lines, history, names)?;
+        push_repeated(alloc, &mut words, history, names)?;
     }
-    lines.push(String::from_str(
+    words.push(String::from_str(
         alloc,
         "A variable is written twice with one value, or with its initial value. So a read does not name its write, and nothing is known.",
     )?)?;
-    Ok(lines)
+    Ok(Lines::of_words(alloc, words))
 }
 
 /// The lines on a kind that a long history shows: the words of the pattern and its core, or the operations that were gathered.
 ///
 /// Fails for want of memory alone. O(n) for n operations of the core, beside its words.
+#[tactic(auto, using(crate::proofs::CoreLines::gathered_no))]
 pub(crate) fn lines_of_found<N: Names>(
     alloc: Global,
     history: &LongHistory,
     names: &N,
     said: &LongFindings,
+    _criterion: Criterion,
     kind: Kind,
-) -> Result<Vec<String>, AllocError> {
+) -> Result<Lines, AllocError>
+    requires { IsTrue (is_against kind _criterion) }
+    ensures { IfOk result (λ lines. IfSome lines.core (λ t. IsTextOfNo _criterion (string_bytes t))) }
+{
     match said.gathered(kind) {
         Some(Gathered::Core(core)) => lines_of_core(alloc, history, names, core),
         Some(Gathered::Operations(ops)) => {
-            let mut lines = lines_of_kind(alloc, kind)?;
-            lines.push(words_of_operations(alloc, names, ops)?)?;
-            Ok(lines)
+            let mut words = Vec::new(alloc);
+            words.push(words_of_kind(alloc, kind)?)?;
+            words.push(words_of_operations(alloc, names, ops)?)?;
+            Ok(Lines::of_words(alloc, words))
         }
-        None => lines_of_kind(alloc, kind),
+        None => line_of_kind(alloc, kind),
     }
 }
 
@@ -115,21 +142,29 @@ fn lines_of_core<N: Names>(
     history: &LongHistory,
     names: &N,
     core: &LongCore,
-) -> Result<Vec<String>, AllocError> {
+) -> Result<Lines, AllocError>
+    ensures { IfOk result (λ lines. IfSome lines.core (λ t. IsJson (string_bytes t) (form_of (AnyHistory.Memory core.now.history)))) }
+{
     let names = CoreNames {
         core,
         sessions: history.sessions(),
         whole: names,
     };
-    let mut lines = words_of_pattern(alloc, core.history(), &names, core.pattern())?;
+    let words = words_of_pattern(alloc, core.history(), &names, core.pattern())?;
     let text = text_of_history(alloc, core.history())?;
-    lines.push(format!(in alloc; "These operations alone are a no: {text}")?)?;
-    lines.push(words_of_places(alloc, core.history(), &names)?)?;
-    Ok(lines)
+    let mut after = Vec::new(alloc);
+    after.push(words_of_places(alloc, core.history(), &names)?)?;
+    Ok(Lines {
+        words,
+        core: Some(text),
+        after,
+    })
 }
 
 // The text of a history of a memory.
-fn text_of_history(alloc: Global, history: &History<Memory>) -> Result<String, AllocError> {
+fn text_of_history(alloc: Global, history: &History<Memory>) -> Result<String, AllocError>
+    ensures { IfOk result (λ text. IsJson (string_bytes text) (form_of (AnyHistory.Memory history.now))) }
+{
     let copy = AnyHistory::Memory(history.copy(alloc)?);
     let text = write_history(alloc, &copy);
     copy.discard();
@@ -146,7 +181,7 @@ pub(crate) fn text_of_small<N: Names>(
     names: &N,
     said: &Findings,
 ) -> Result<String, AllocError>
-    ensures { IfOk result (λ text. TellsEach said.now (string_bytes text)) }
+    ensures { IfOk result (λ text. TellsEach Limited (history_of small.entry) said.now (string_bytes text)) }
 {
     let lines = FindingLines {
         cc: lines_of_small_finding(alloc, history, small, names, Criterion::Cc, &said.cc)?,
@@ -164,7 +199,9 @@ fn lines_of_small_finding<N: Names>(
     names: &N,
     criterion: Criterion,
     finding: &Finding,
-) -> Result<Vec<String>, AllocError> {
+) -> Result<Lines, AllocError>
+    ensures { IfOk result (λ lines. IfSome lines.core (λ t. IsTextOfCore Limited (history_of small.entry) criterion (string_bytes t))) }
+{
     match finding {
         Finding::Met(_) => lines_of_yes(alloc, history, names, criterion),
         Finding::Shown(_) | Finding::Present(_) | Finding::Unexplained(_, _) => {

@@ -1,8 +1,14 @@
 //! The lines on parts of a history that do not meet a criterion by themselves.
 
-use crate::finding_lines::lines_of_kind;
+ghost use Rattle.std.specs.Prelude.{IfOk, IfSome, string_bytes};
+ghost use Rattle.app_command_line.specs.declared.length.Length.TheVariants.{Limited};
+ghost use Rattle.judge_subhistories.specs.Cores.{IsCoreText};
+ghost use Rattle.app_explanations.specs.CoresInWords.{IsTextOfCore};
+
+use crate::finding_lines::words_of_kind;
+use crate::lines::Lines;
 use cert_check::Criterion;
-use json_histories::History;
+use json_histories::{AnyHistory, History};
 use judge_decision::Decision;
 use judge_subhistories::{
     Excluded, core_text, excluded_without, ops_with_sources, pattern_in_whole,
@@ -24,58 +30,65 @@ pub(crate) fn lines_with_core<N: Names>(
     names: &N,
     criterion: Criterion,
     pattern: &Pattern,
-) -> Result<Vec<String>, AllocError> {
-    let mut lines = words_of_pattern(alloc, history, names, pattern)?;
-    push_core(alloc, &mut lines, history, names, criterion, pattern)?;
-    Ok(lines)
+) -> Result<Lines, AllocError>
+    ensures { IfOk result (λ lines. IfSome lines.core (λ t. IsTextOfCore Limited (AnyHistory.Memory history.now) criterion (string_bytes t))) }
+{
+    let words = words_of_pattern(alloc, history, names, pattern)?;
+    with_core(alloc, words, history, names, criterion, pattern)
 }
 
-/// Adds the lines that show that a history without the variables whose values are not distinct does not meet a criterion, if
+/// Words, and the lines that show that a history without the variables whose values are not distinct does not meet a criterion, if
 /// [`excluded_without`] finds that.
 ///
 /// Fails for want of memory alone. It costs what [`excluded_without`] and the lines on a pattern take.
-pub(crate) fn push_without_variables<N: Names>(
+pub(crate) fn lines_without_variables<N: Names>(
     alloc: Global,
-    lines: &mut Vec<String>,
+    words: Vec<String>,
     memory: &IndexedMemory,
     names: &N,
     criterion: Criterion,
-) -> Result<(), AllocError> {
+) -> Result<Lines, AllocError>
+    ensures { IfOk result (λ lines. IfSome lines.core (λ t. IsTextOfCore Limited (AnyHistory.Memory memory.now) criterion (string_bytes t))) }
+{
     let history = memory.history();
     let variables = repeated_variables(alloc, memory)?;
     match excluded_without(alloc, history, &variables, criterion)? {
         Some(excluded) => {
-            let pushed = push_excluded(
-                alloc, lines, history, names, criterion, &variables, &excluded,
+            let lines = lines_of_excluded(
+                alloc, words, history, names, criterion, &variables, &excluded,
             );
             drop(excluded);
-            pushed
+            lines
         }
-        None => Ok(()),
+        None => Ok(Lines::of_words(alloc, words)),
     }
 }
 
-// Adds the lines that show that a part does not meet a criterion.
-fn push_excluded<N: Names>(
+// Words, and the lines that show that a part does not meet a criterion.
+fn lines_of_excluded<N: Names>(
     alloc: Global,
-    lines: &mut Vec<String>,
+    words: Vec<String>,
     history: &History<Memory>,
     names: &N,
     criterion: Criterion,
     variables: &[u32],
     excluded: &Excluded,
-) -> Result<(), AllocError> {
+) -> Result<Lines, AllocError>
+    ensures { IfOk result (λ lines. IfSome lines.core (λ t. IsCoreText excluded.now.part criterion (string_bytes t))) }
+{
+    let mut words = words;
     match &excluded.decision {
         Decision::Excluded(pattern) => {
-            lines.push(words_without_variables(alloc, names, variables, pattern.kind())?)?;
-            push_in_whole(alloc, lines, history, names, variables, pattern)?;
-            push_core(alloc, lines, &excluded.part, &OwnNames, criterion, pattern)
+            words.push(words_without_variables(alloc, names, variables, pattern.kind())?)?;
+            push_in_whole(alloc, &mut words, history, names, variables, pattern)?;
+            with_core(alloc, words, &excluded.part, &OwnNames, criterion, pattern)
         }
         Decision::ExcludedBy(kind) => {
-            lines.push(words_without_variables(alloc, names, variables, *kind)?)?;
-            push_all(lines, lines_of_kind(alloc, *kind)?)
+            words.push(words_without_variables(alloc, names, variables, *kind)?)?;
+            words.push(words_of_kind(alloc, *kind)?)?;
+            Ok(Lines::of_words(alloc, words))
         }
-        Decision::Meets | Decision::Open => Ok(()),
+        Decision::Meets | Decision::Open => Ok(Lines::of_words(alloc, words)),
     }
 }
 
@@ -91,32 +104,44 @@ fn push_in_whole<N: Names>(
     let renamed = pattern_in_whole(alloc, history, variables, pattern)?;
     let words = words_of_pattern(alloc, history, names, &renamed);
     drop(renamed);
-    push_all(lines, words?)
+    for line in words? {
+        lines.push(line)?;
+    }
+    Ok(())
 }
 
-// Adds the core of a pattern, if it has one.
-fn push_core<N: Names>(
+// Words, and the core of a pattern, if it has one, with which operations it has.
+fn with_core<N: Names>(
     alloc: Global,
-    lines: &mut Vec<String>,
+    words: Vec<String>,
     history: &History<Memory>,
     names: &N,
     criterion: Criterion,
     pattern: &Pattern,
-) -> Result<(), AllocError> {
-    if let Some(core) = core_text(alloc, history, criterion, pattern)? {
-        lines.push(format!(in alloc; "These operations alone are a no: {core}")?)?;
-        if names.tells_more() {
-            let ops = ops_with_sources(alloc, history, pattern)?;
-            lines.push(words_of_kept(alloc, names, &ops)?)?;
-        }
+) -> Result<Lines, AllocError>
+    ensures { IfOk result (λ lines. IfSome lines.core (λ t. IsCoreText history.now criterion (string_bytes t))) }
+{
+    match core_text(alloc, history, criterion, pattern)? {
+        Some(core) => Ok(Lines {
+            words,
+            core: Some(core),
+            after: words_after_core(alloc, history, names, pattern)?,
+        }),
+        None => Ok(Lines::of_words(alloc, words)),
     }
-    Ok(())
 }
 
-// Adds lines after others.
-fn push_all(lines: &mut Vec<String>, more: Vec<String>) -> Result<(), AllocError> {
-    for line in more {
-        lines.push(line)?;
+// The words on which operations the core of a pattern has.
+fn words_after_core<N: Names>(
+    alloc: Global,
+    history: &History<Memory>,
+    names: &N,
+    pattern: &Pattern,
+) -> Result<Vec<String>, AllocError> {
+    let mut words = Vec::new(alloc);
+    if names.tells_more() {
+        let ops = ops_with_sources(alloc, history, pattern)?;
+        words.push(words_of_kept(alloc, names, &ops)?)?;
     }
-    Ok(())
+    Ok(words)
 }

@@ -1,9 +1,14 @@
 //! The text of three findings, from the lines on each.
 
-ghost use Rattle.std.specs.Prelude.{IfOk, string_bytes};
+ghost use Rattle.std.specs.Prelude.{◌≡◌, IfOk, IfSome, Some, string_bytes};
+ghost use Rattle.json_histories.specs.declared.any_history.AnyHistory.{AnyHistory as Whole};
+ghost use Rattle.cert_check.specs.declared.criterion.Criterion.TheVariants.{Cc, Ccv, Cm};
+ghost use Rattle.app_command_line.specs.declared.length.Length.{Length};
+ghost use Rattle.app_explanations.specs.CoresInWords.{IsTextOfCore};
 ghost use Rattle.app_explanations.specs.ExplainingInWords.{TellsEach};
 
 use crate::finding_text::text_with_lines;
+use crate::lines::Lines;
 use app_findings::Findings;
 use cert_check::Criterion;
 use show_words::Names;
@@ -12,9 +17,9 @@ use std::alloc::{AllocError, Global};
 /// The lines on the finding of each criterion.
 #[derive(Drop)]
 pub(crate) struct FindingLines {
-    pub cc: Vec<String>,
-    pub cm: Vec<String>,
-    pub ccv: Vec<String>,
+    pub cc: Lines,
+    pub cm: Lines,
+    pub ccv: Lines,
 }
 
 /// The text of findings: for each criterion the line of `judge`, and after it the lines on its finding. If the lines were given for a
@@ -27,10 +32,13 @@ pub(crate) fn text_of_findings<N: Names>(
     findings: &Findings,
     lines: FindingLines,
 ) -> Result<String, AllocError>
-    ensures { IfOk result (λ text. TellsEach findings.now (string_bytes text)) }
+    ensures { (long : Length) (history : Whole) → IfSome lines.cc.core (λ t. IsTextOfCore long history Cc (string_bytes t))
+        → IfSome lines.cm.core (λ t. IsTextOfCore long history Cm (string_bytes t))
+        → IfSome lines.ccv.core (λ t. IsTextOfCore long history Ccv (string_bytes t))
+        → IfOk result (λ text. TellsEach long history findings.now (string_bytes text)) }
 {
     let mut once = given_once(alloc, lines)?;
-    let text = match names.push_remarks(alloc, &mut once.ccv) {
+    let text = match names.push_remarks(alloc, &mut once.ccv.after) {
         Ok(()) => text_of_lines(alloc, findings, &once),
         Err(no_memory) => Err(no_memory),
     };
@@ -44,7 +52,10 @@ fn text_of_lines(
     findings: &Findings,
     lines: &FindingLines,
 ) -> Result<String, AllocError>
-    ensures { IfOk result (λ text. TellsEach findings.now (string_bytes text)) }
+    ensures { (long : Length) (history : Whole) → IfSome lines.now.cc.core (λ t. IsTextOfCore long history Cc (string_bytes t))
+        → IfSome lines.now.cm.core (λ t. IsTextOfCore long history Cm (string_bytes t))
+        → IfSome lines.now.ccv.core (λ t. IsTextOfCore long history Ccv (string_bytes t))
+        → IfOk result (λ text. TellsEach long history findings.now (string_bytes text)) }
 {
     let cc = text_with_lines(alloc, Criterion::Cc, &findings.cc, &lines.cc)?;
     let cm = text_with_lines(alloc, Criterion::Cm, &findings.cm, &lines.cm)?;
@@ -53,40 +64,44 @@ fn text_of_lines(
 }
 
 // The lines, each finding's once.
-fn given_once(alloc: Global, lines: FindingLines) -> Result<FindingLines, AllocError> {
+fn given_once(alloc: Global, lines: FindingLines) -> Result<FindingLines, AllocError>
+    ensures cc { IfOk result (λ once. once.cc.core ≡ lines.cc.core) }
+    ensures cm { IfOk result (λ once. IfSome once.cm.core (λ t. lines.cm.core ≡ Some t)) }
+    ensures ccv { IfOk result (λ once. IfSome once.ccv.core (λ t. lines.ccv.core ≡ Some t)) }
+{
     let FindingLines { cc, cm, ccv } = lines;
-    let ccv = if are_given(&ccv, &cc) {
-        line_as_for(alloc, Criterion::Cc)?
+    let named = if are_given(&ccv, &cc) {
+        Some(Criterion::Cc)
     } else if are_given(&ccv, &cm) {
-        line_as_for(alloc, Criterion::Cm)?
+        Some(Criterion::Cm)
     } else {
-        ccv
+        None
     };
-    let cm = if are_given(&cm, &cc) {
-        line_as_for(alloc, Criterion::Cc)?
+    let ccv = lines_or_name(alloc, ccv, named)?;
+    let named = if are_given(&cm, &cc) {
+        Some(Criterion::Cc)
     } else {
-        cm
+        None
     };
+    let cm = lines_or_name(alloc, cm, named)?;
     Ok(FindingLines { cc, cm, ccv })
 }
 
-// Whether these lines are the ones that were given before. A single line is as short as the one that would name its criterion.
-fn are_given(lines: &[String], before: &[String]) -> bool {
-    if lines.len() < 2 || lines.len() != before.len() {
-        return false;
-    }
-    for (line, other) in lines.iter().zip(before) {
-        if line.as_str() != other.as_str() {
-            return false;
+// The lines, or the line that names the criterion whose finding is the same.
+fn lines_or_name(alloc: Global, lines: Lines, named: Option<Criterion>) -> Result<Lines, AllocError>
+    ensures { IfOk result (λ once. IfSome once.core (λ t. lines.core ≡ Some t)) }
+{
+    match named {
+        Some(criterion) => {
+            drop(lines);
+            let name = criterion.name();
+            Lines::of_line(alloc, format!(in alloc; "as for {name}")?)
         }
+        None => Ok(lines),
     }
-    true
 }
 
-// The line that names the criterion whose finding is the same.
-fn line_as_for(alloc: Global, criterion: Criterion) -> Result<Vec<String>, AllocError> {
-    let name = criterion.name();
-    let mut lines = Vec::new(alloc);
-    lines.push(format!(in alloc; "as for {name}")?)?;
-    Ok(lines)
+// Whether these lines are the ones that were given before. A single line is as short as the one that would name its criterion.
+fn are_given(lines: &Lines, before: &Lines) -> bool {
+    !lines.are_short() && lines.are(before)
 }

@@ -1,5 +1,7 @@
 //! Which guarantees the stale reads of a history break. Nobody trusts this: it says in other words what a list of faults shows.
 
+ghost use Rattle.std.specs.Prelude.{◌≡◌, ◌≤◌, [], length, IfOk, OnOk};
+
 use crate::direct_reads::DirectReads;
 use judge_memory::{LongIndex, Part};
 use show_words::{Guarantee, Names};
@@ -61,7 +63,9 @@ fn one_more(count: &mut u32) {
 
 impl Broken {
     // Nothing is broken yet.
-    fn none(alloc: Global) -> Broken {
+    fn none(alloc: Global) -> Broken
+        ensures { result.listed.items ≡ [] }
+    {
         Broken {
             counts: GuaranteeCounts {
                 read_your_writes: 0,
@@ -83,7 +87,9 @@ impl Broken {
     }
 
     // Counts what one more read breaks, and lists it unless so many are listed already.
-    fn add(&mut self, guarantee: Option<Guarantee>, most: usize) -> Result<(), AllocError> {
+    fn add(&mut self, guarantee: Option<Guarantee>, most: usize) -> Result<(), AllocError>
+        ensures { OnOk result (length self.old.listed.items ≤ most → length self.new.listed.items ≤ most) }
+    {
         if let Some(guarantee) = guarantee {
             self.counts.add(guarantee);
         }
@@ -95,7 +101,7 @@ impl Broken {
 }
 
 /// Which guarantees the reads break that show a fault, where `missed` has for each operation the number after that of the latest write that
-/// it missed, or 0.
+/// it missed, or 0. At most so many reads are listed.
 ///
 /// Fails for want of memory alone. O(n (k + log n)) for n operations of k sessions, and O(n) if no write was missed.
 pub(crate) fn broken_guarantees<N: Names>(
@@ -104,7 +110,9 @@ pub(crate) fn broken_guarantees<N: Names>(
     names: &N,
     missed: &[u32],
     most: usize,
-) -> Result<Broken, AllocError> {
+) -> Result<Broken, AllocError>
+    ensures { IfOk result (λ broken. length broken.listed.items ≤ most) }
+{
     let is_any_missed = missed.iter().any(|after| *after > 0);
     let mut reads = DirectReads::of(alloc, index, is_any_missed)?;
     let mut broken = Broken::none(alloc);
@@ -124,7 +132,9 @@ fn add_broken(
     operation: u32,
     most: usize,
     broken: &mut Broken,
-) -> Result<(), AllocError> {
+) -> Result<(), AllocError>
+    ensures { OnOk result (length broken.old.listed.items ≤ most → length broken.new.listed.items ≤ most) }
+{
     let after = missed.get(operation as usize).copied().unwrap_or(0);
     if after > 0 {
         let links = reads.links(index, after - 1, operation);

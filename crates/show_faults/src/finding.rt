@@ -1,6 +1,6 @@
 //! The search for all reads that show a fault.
 
-ghost use Rattle.std.specs.Prelude.{◌≡◌, ◌↔◌, ◌+◌, ◌<◌, length, IfOk, IsTrue, OnOk};
+ghost use Rattle.std.specs.Prelude.{◌≡◌, ◌↔◌, ◌+◌, ◌<◌, ◌≤◌, length, IfOk, IsTrue, OnOk};
 ghost use Rattle.model_history.specs.declared.op_id.OpId.{OpId as Operation};
 ghost use Rattle.model_history.specs.History.{IsOp, number};
 ghost use Rattle.order_memory.specs.SourceOrder.{IsCyclic};
@@ -31,6 +31,7 @@ pub fn find_faults<N: Names>(
     most: usize,
 ) -> Result<Faults, AllocError>
     ensures tally { IfOk result (λ f. IsTallyOf index.now.history most f.listed.items f.counts f.by_session.items) }
+    ensures few_broken { IfOk result (λ f. length f.broken.listed.items ≤ most) }
     ensures sessions { IfOk result (λ f. f.sessions ≡ length index.now.history.1) }
     ensures cycle { IfOk result (λ f. IsTrue f.has_cycle ↔ IsCyclic index.now.history) }
 {
@@ -57,6 +58,7 @@ fn tally<N: Names>(
 ) -> Result<Faults, AllocError>
     requires { AreLatestMissed index.now.history missed.now }
     ensures tally { IfOk result (λ f. IsTallyOf index.now.history most f.listed.items f.counts f.by_session.items) }
+    ensures few_broken { IfOk result (λ f. length f.broken.listed.items ≤ most) }
     ensures sessions { IfOk result (λ f. f.sessions ≡ length index.now.history.1) }
     ensures cycle { IfOk result (λ f. f.has_cycle ≡ has_cycle) }
 {
@@ -83,6 +85,7 @@ fn add_fault(
     requires tally { IsTallyBelow index.now.history operation most faults.old.listed.items faults.old.counts faults.old.by_session.items }
     ensures tally { OnOk result (IsTallyBelow index.now.history (operation + 1) most faults.new.listed.items faults.new.counts
         faults.new.by_session.items) }
+    ensures broken { faults.new.broken ≡ faults.old.broken }
     ensures sessions { faults.new.sessions ≡ faults.old.sessions }
     ensures cycle { faults.new.has_cycle ≡ faults.old.has_cycle }
 {

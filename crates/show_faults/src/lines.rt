@@ -1,5 +1,7 @@
 //! Faults in words, which nobody trusts.
 
+ghost use Rattle.std.specs.Prelude.{◌≡◌, ◌+◌, ◌≤◌, length, IfOk, OnOk};
+
 use crate::broken::GuaranteeCounts;
 use crate::counts::SessionFaults;
 use crate::fault::Fault;
@@ -10,9 +12,6 @@ use model_objects::{RegisterCall, RegisterRet};
 use pattern_check::Kind;
 use show_words::{Guarantee, Names, read_of};
 use std::alloc::{AllocError, Global};
-
-/// The kinds of faults, in the order of their lines.
-const KINDS: [Kind; 3] = [Kind::ThinAirRead, Kind::WriteCOInitRead, Kind::WriteCORead];
 
 /// The most sessions that have a line each.
 const SHOWN_SESSIONS: usize = 16;
@@ -109,7 +108,7 @@ fn known_write(h: &LongHistory, op: OpId) -> Option<(u32, u64)> {
 }
 
 /// The lines of the counts: one for each kind that occurs, then one for each guarantee that is broken, and then one for each session that
-/// has a fault, those with the most first, at most sixteen of them and how many more there are.
+/// has a fault, those with the most first, at most sixteen of them and how many more there are: at most twenty-five lines.
 ///
 /// `WriteCORead: 117 reads in 3 of 64 sessions`, `monotonic reads: broken by 117 reads`, `session 2: 90 reads`. Fails for want
 /// of memory alone. O(s log s) for s sessions that have a fault.
@@ -117,17 +116,33 @@ pub fn count_lines<N: Names>(
     alloc: Global,
     names: &N,
     faults: &Faults,
-) -> Result<Vec<String>, AllocError> {
+) -> Result<Vec<String>, AllocError>
+    ensures { IfOk result (λ lines. length lines.items ≤ 25) }
+{
     let mut lines = Vec::new(alloc);
-    for kind in KINDS {
-        let count = faults.counts.of(kind);
-        if count > 0 {
-            lines.push(kind_line(alloc, names, faults, kind, count)?)?;
-        }
-    }
+    push_kind_line(alloc, names, faults, Kind::ThinAirRead, &mut lines)?;
+    push_kind_line(alloc, names, faults, Kind::WriteCOInitRead, &mut lines)?;
+    push_kind_line(alloc, names, faults, Kind::WriteCORead, &mut lines)?;
     push_guarantee_lines(alloc, faults.broken.counts, &mut lines)?;
     push_session_lines(alloc, names, &faults.by_session, &mut lines)?;
     Ok(lines)
+}
+
+/// Pushes the line of a kind, if it occurs.
+fn push_kind_line<N: Names>(
+    alloc: Global,
+    names: &N,
+    faults: &Faults,
+    kind: Kind,
+    lines: &mut Vec<String>,
+) -> Result<(), AllocError>
+    ensures { OnOk result (length lines.new.items ≤ length lines.old.items + 1) }
+{
+    let count = faults.counts.of(kind);
+    if count > 0 {
+        lines.push(kind_line(alloc, names, faults, kind, count)?)?;
+    }
+    Ok(())
 }
 
 /// The line of a kind.
@@ -154,14 +169,30 @@ fn push_guarantee_lines(
     alloc: Global,
     counts: GuaranteeCounts,
     lines: &mut Vec<String>,
-) -> Result<(), AllocError> {
-    for guarantee in Guarantee::ALL {
-        let count = counts.of(guarantee);
-        if count > 0 {
-            let name = guarantee.name();
-            let reads = reads_words(alloc, u64::from(count))?;
-            lines.push(format!(in alloc; "{name}: broken by {reads}")?)?;
-        }
+) -> Result<(), AllocError>
+    ensures { OnOk result (length lines.new.items ≤ length lines.old.items + 5) }
+{
+    push_guarantee_line(alloc, counts, Guarantee::ReadYourWrites, lines)?;
+    push_guarantee_line(alloc, counts, Guarantee::MonotonicReads, lines)?;
+    push_guarantee_line(alloc, counts, Guarantee::MonotonicWrites, lines)?;
+    push_guarantee_line(alloc, counts, Guarantee::WritesFollowReads, lines)?;
+    push_guarantee_line(alloc, counts, Guarantee::CausalOrder, lines)
+}
+
+/// Pushes the line of a guarantee, if it is broken.
+fn push_guarantee_line(
+    alloc: Global,
+    counts: GuaranteeCounts,
+    guarantee: Guarantee,
+    lines: &mut Vec<String>,
+) -> Result<(), AllocError>
+    ensures { OnOk result (length lines.new.items ≤ length lines.old.items + 1) }
+{
+    let count = counts.of(guarantee);
+    if count > 0 {
+        let name = guarantee.name();
+        let reads = reads_words(alloc, u64::from(count))?;
+        lines.push(format!(in alloc; "{name}: broken by {reads}")?)?;
     }
     Ok(())
 }
@@ -178,19 +209,37 @@ fn push_session_lines<N: Names>(
     names: &N,
     rows: &[SessionFaults],
     lines: &mut Vec<String>,
-) -> Result<(), AllocError> {
+) -> Result<(), AllocError>
+    ensures { OnOk result (length lines.new.items ≤ length lines.old.items + 17) }
+{
     let mut sorted = Vec::from_slice(alloc, rows)?;
     sorted.sort_unstable_by_key(|row| (u64::MAX - row.counts.total(), row.session));
-    for row in sorted.iter().take(SHOWN_SESSIONS) {
-        let session = names.session(alloc, OpId::at(row.session as usize, 0))?;
-        let reads = reads_words(alloc, row.counts.total())?;
-        lines.push(format!(in alloc; "{session}: {reads}")?)?;
-    }
+    let sorted = sorted.as_slice();
     if sorted.len() > SHOWN_SESSIONS {
         let more = sorted.len() - SHOWN_SESSIONS;
+        push_rows(alloc, names, &sorted[..SHOWN_SESSIONS], lines)?;
         let one = names.session_word();
         let ending = if more == 1 { "" } else { "s" };
         lines.push(format!(in alloc; "and {more} more {one}{ending}")?)?;
+        Ok(())
+    } else {
+        push_rows(alloc, names, sorted, lines)
+    }
+}
+
+/// Pushes a line for each of these sessions.
+fn push_rows<N: Names>(
+    alloc: Global,
+    names: &N,
+    rows: &[SessionFaults],
+    lines: &mut Vec<String>,
+) -> Result<(), AllocError>
+    ensures { OnOk result (length lines.new.items ≤ length lines.old.items + length rows.now) }
+{
+    for row in rows {
+        let session = names.session(alloc, OpId::at(row.session as usize, 0))?;
+        let reads = reads_words(alloc, row.counts.total())?;
+        lines.push(format!(in alloc; "{session}: {reads}")?)?;
     }
     Ok(())
 }

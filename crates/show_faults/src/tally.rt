@@ -33,6 +33,7 @@ impl Faults {
     /// No faults yet, of those that break these guarantees.
     pub(crate) fn none(alloc: Global, broken: Broken, sessions: u32, has_cycle: bool) -> Faults
         ensures tally { (most : ℕ) → IsTally [] most result.listed.items result.counts result.by_session.items }
+        ensures broken { result.broken ≡ broken }
         ensures sessions { result.sessions ≡ sessions }
         ensures cycle { result.has_cycle ≡ has_cycle }
     {
@@ -57,6 +58,7 @@ impl Faults {
             → ((f : AFault) → IsListed all f → (read_of f).session ≤ (read_of fault).session)
             → IsTally all most self.old.listed.items self.old.counts self.old.by_session.items
             → IsTally (all ++ fault ∷ []) most self.new.listed.items self.new.counts self.new.by_session.items) }
+        ensures broken { self.new.broken ≡ self.old.broken }
         ensures sessions { self.new.sessions ≡ self.old.sessions }
         ensures cycle { self.new.has_cycle ≡ self.old.has_cycle }
     {

@@ -1,0 +1,8 @@
+use Rattle.std.specs.Prelude.{string_bytes}
+use Rattle.app_explanations.proofs.CoreLines.{core_holds, words_more}
+use Rattle.app_explanations.proofs.finding_text.push_core_line.Goals as goal
+
+pub returns-in_ok-push_line : goal.returns-in_ok-push_line
+returns-in_ok-push_line c = λ long history criterion true_of are.
+    words_more long history criterion (string_bytes c.args.text.now) c.args.line.now (string_bytes c.push_line.new.text) c.in_ok-push_line.ensures
+    (c.is_one_line.ensures.0 c.if-is_one_line.true) (core_holds long history criterion c.args._core.now c.args.line.now c.requires true_of) are

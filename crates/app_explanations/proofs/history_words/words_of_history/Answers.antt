@@ -1,0 +1,11 @@
+use Rattle.std.proofs.Common.{IfOk, subst, sym}
+use Rattle.std.specs.Prelude.{string_bytes}
+use Rattle.json_histories.specs.declared.any_history.AnyHistory.{AnyHistory}
+use Rattle.app_command_line.specs.declared.length.Length.TheVariants.{Limited}
+use Rattle.app_explanations.specs.ExplanationTexts.{IsWordsOf}
+use Rattle.app_explanations.proofs.history_words.words_of_history.Goals as goal
+
+pub returns-in-Memory : goal.returns-in-Memory
+returns-in-Memory g c =
+    subst (λ (x : AnyHistory). IfOk c.words_of_memory.result (λ text. IsWordsOf Limited x (string_bytes text))) (sym c.in-Memory.is)
+    c.words_of_memory.ensures
