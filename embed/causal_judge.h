@@ -11,7 +11,8 @@
  *         fwrite(answer, 1, needed, stdout);
  *
  * What a call tells is proved: it is what a run of the program may write for
- * the same input, and so each line of it is true of the history in the input.
+ * the same input, and so each line of it is true of the history in the input,
+ * or of the history that the log in the input records.
  *
  * What the caller owes, which nothing checks:
  *
@@ -65,17 +66,18 @@ enum {
 };
 
 /*
- * The texts of all calls but causal_judge_explain have fewer bytes than this,
- * and so have all lines of refusals. Where that were not so, a call would say
- * CAUSAL_JUDGE_TOO_SMALL.
+ * The answers of all calls to judge, check and refute have fewer bytes than
+ * this, and so have all lines of refusals but those of logs. Where that were
+ * not so, a call would say CAUSAL_JUDGE_TOO_SMALL.
  */
 #define CAUSAL_JUDGE_LINES 128
 
 /*
- * As much stack is enough for each call: more than twice what any was seen to
- * take, as README.md says. Nothing proves it.
+ * As much stack is enough for each call: more than twice what the program was
+ * seen to take for the page of a log, which takes most, as README.md says.
+ * Nothing proves it.
  */
-#define CAUSAL_JUDGE_STACK_BYTES 131072
+#define CAUSAL_JUDGE_STACK_BYTES 1048576
 
 /*
  * Each call sets *needed to the number of bytes of its text. A text ends with a
@@ -83,6 +85,9 @@ enum {
  * 0 or 1 it stands first in the buffer, and the bytes behind it are as they
  * were.
  */
+
+/* ---- Histories of any object, within the limits: docs/guide.md. An input has
+ * at most 67,108,864 bytes. */
 
 /*
  * Judges the history in the input: `causal_judge judge`. The answer is three
@@ -111,12 +116,137 @@ uint8_t causal_judge_explain(const uint8_t *input, size_t input_bytes,
                              size_t *needed);
 
 /*
+ * Says the same in words: `causal_judge explain`.
+ */
+uint8_t causal_judge_explain_words(const uint8_t *input, size_t input_bytes,
+                                   uint8_t *answer, size_t answer_bytes,
+                                   size_t *needed);
+
+/*
+ * Says the same as a picture in SVG: `causal_judge explain --svg`.
+ */
+uint8_t causal_judge_explain_picture(const uint8_t *input, size_t input_bytes,
+                                     uint8_t *answer, size_t answer_bytes,
+                                     size_t *needed);
+
+/*
+ * Says the same as a page for a browser, with the reads that show a fault:
+ * `causal_judge explain --html`. The answer is one HTML file, which needs no
+ * other.
+ */
+uint8_t causal_judge_explain_page(const uint8_t *input, size_t input_bytes,
+                                  uint8_t *answer, size_t answer_bytes,
+                                  size_t *needed);
+
+/*
  * Checks that the pattern in the input shows that the history in it does not
  * meet a criterion: `causal_judge refute`. The answer is one line.
  */
 uint8_t causal_judge_refute(const uint8_t *input, size_t input_bytes,
                             uint8_t *answer, size_t answer_bytes,
                             size_t *needed);
+
+/* ---- Memory histories of any length. An input has at most 1,073,741,824
+ * bytes. */
+
+/*
+ * Judges the history in the input: `causal_judge judge --long`. The answer is
+ * three lines.
+ */
+uint8_t causal_judge_long_judge(const uint8_t *input, size_t input_bytes,
+                                uint8_t *answer, size_t answer_bytes,
+                                size_t *needed);
+
+/*
+ * Says why each criterion is met or not: `causal_judge explain --long --json`.
+ */
+uint8_t causal_judge_long_explain(const uint8_t *input, size_t input_bytes,
+                                  uint8_t *answer, size_t answer_bytes,
+                                  size_t *needed);
+
+/*
+ * In words: `causal_judge explain --long`.
+ */
+uint8_t causal_judge_long_explain_words(const uint8_t *input, size_t input_bytes,
+                                        uint8_t *answer, size_t answer_bytes,
+                                        size_t *needed);
+
+/*
+ * As a picture in SVG: `causal_judge explain --long --svg`.
+ */
+uint8_t causal_judge_long_explain_picture(const uint8_t *input, size_t input_bytes,
+                                          uint8_t *answer, size_t answer_bytes,
+                                          size_t *needed);
+
+/*
+ * As a page: `causal_judge explain --long --html`.
+ */
+uint8_t causal_judge_long_explain_page(const uint8_t *input, size_t input_bytes,
+                                       uint8_t *answer, size_t answer_bytes,
+                                       size_t *needed);
+
+/*
+ * Checks that the pattern in the input shows that the history in it does not
+ * meet a criterion: `causal_judge refute --long`. The answer is one line.
+ */
+uint8_t causal_judge_long_refute(const uint8_t *input, size_t input_bytes,
+                                 uint8_t *answer, size_t answer_bytes,
+                                 size_t *needed);
+
+/*
+ * ---- Logs of events, one on a line. A log may have any number of bytes, and
+ * for a page at most 67,108,864. A last line that is not whole is passed over:
+ * one without a line feed that is no JSON text. The program says so on standard
+ * error; a call says nothing of it.
+ *
+ * The text of a refusal is what the program writes to standard error: the
+ * number of the refusal and of the line at fault, as `refused 30 2`, and on a
+ * second line what is wrong there.
+ */
+
+/*
+ * Judges the history of the log in the input: `causal_judge judge --events`.
+ * The answer is three lines.
+ */
+uint8_t causal_judge_log_judge(const uint8_t *input, size_t input_bytes,
+                               uint8_t *answer, size_t answer_bytes,
+                               size_t *needed);
+
+/*
+ * Says why each criterion is met or not: `causal_judge explain --events --json`.
+ */
+uint8_t causal_judge_log_explain(const uint8_t *input, size_t input_bytes,
+                                 uint8_t *answer, size_t answer_bytes,
+                                 size_t *needed);
+
+/*
+ * In words: `causal_judge explain --events`.
+ */
+uint8_t causal_judge_log_explain_words(const uint8_t *input, size_t input_bytes,
+                                       uint8_t *answer, size_t answer_bytes,
+                                       size_t *needed);
+
+/*
+ * As a picture in SVG: `causal_judge explain --events --svg`.
+ */
+uint8_t causal_judge_log_explain_picture(const uint8_t *input, size_t input_bytes,
+                                         uint8_t *answer, size_t answer_bytes,
+                                         size_t *needed);
+
+/*
+ * As a page: `causal_judge explain --events --html`.
+ */
+uint8_t causal_judge_log_explain_page(const uint8_t *input, size_t input_bytes,
+                                      uint8_t *answer, size_t answer_bytes,
+                                      size_t *needed);
+
+/*
+ * Writes the history of the log in the input as JSON, in the form that
+ * causal_judge_long_judge reads: `causal_judge events`.
+ */
+uint8_t causal_judge_log_events(const uint8_t *input, size_t input_bytes,
+                                uint8_t *answer, size_t answer_bytes,
+                                size_t *needed);
 
 #ifdef __cplusplus
 }

@@ -2,34 +2,15 @@
  * Answers standard input as the program does, through the library:
  *
  *     judge_c judge < FILE
+ *     judge_c log_explain_page < FILE > page.html
  *
- * The answer goes to standard output, the line of a refusal to standard error,
+ * Its word is the name of a call. The answer goes to standard output, the line of a refusal to standard error,
  * and the status of the call becomes that of the process.
  */
-#include "causal_judge.h"
+#include "calls.h"
 
 #include <stdio.h>
 #include <stdlib.h>
-#include <string.h>
-
-typedef uint8_t call(const uint8_t *, size_t, uint8_t *, size_t, size_t *);
-
-static const struct {
-    const char *name;
-    call *call;
-} COMMANDS[] = {
-    {"judge", causal_judge_judge},
-    {"check", causal_judge_check},
-    {"explain", causal_judge_explain},
-    {"refute", causal_judge_refute},
-};
-
-static call *command(const char *name) {
-    for (size_t i = 0; i < sizeof COMMANDS / sizeof COMMANDS[0]; i++)
-        if (strcmp(name, COMMANDS[i].name) == 0)
-            return COMMANDS[i].call;
-    return NULL;
-}
 
 /* All of standard input, or NULL. */
 static uint8_t *read_all(size_t *bytes) {
@@ -52,9 +33,9 @@ static uint8_t *read_all(size_t *bytes) {
 }
 
 int main(int count, char **words) {
-    call *ask = count == 2 ? command(words[1]) : NULL;
+    causal_judge_call *ask = count == 2 ? call_named(words[1]) : NULL;
     if (ask == NULL) {
-        fputs("usage: judge_c judge|check|explain|refute < FILE\n", stderr);
+        fputs("usage: judge_c CALL < FILE, where CALL is judge, explain, log_judge or another of calls.h\n", stderr);
         return 2;
     }
     size_t input_bytes, room = CAUSAL_JUDGE_LINES, needed;

@@ -1,6 +1,8 @@
 // Answers standard input as the program does, through the library:
 //
 //	judge_go judge < FILE
+//
+// Its word is the name of a call, such as log_explain_page.
 package main
 
 /*
@@ -24,10 +26,25 @@ import (
 )
 
 var commands = map[string]*C.call{
-	"judge":   (*C.call)(C.causal_judge_judge),
-	"check":   (*C.call)(C.causal_judge_check),
-	"explain": (*C.call)(C.causal_judge_explain),
-	"refute":  (*C.call)(C.causal_judge_refute),
+	"judge":                (*C.call)(C.causal_judge_judge),
+	"check":                (*C.call)(C.causal_judge_check),
+	"explain":              (*C.call)(C.causal_judge_explain),
+	"explain_words":        (*C.call)(C.causal_judge_explain_words),
+	"explain_picture":      (*C.call)(C.causal_judge_explain_picture),
+	"explain_page":         (*C.call)(C.causal_judge_explain_page),
+	"refute":               (*C.call)(C.causal_judge_refute),
+	"long_judge":           (*C.call)(C.causal_judge_long_judge),
+	"long_explain":         (*C.call)(C.causal_judge_long_explain),
+	"long_explain_words":   (*C.call)(C.causal_judge_long_explain_words),
+	"long_explain_picture": (*C.call)(C.causal_judge_long_explain_picture),
+	"long_explain_page":    (*C.call)(C.causal_judge_long_explain_page),
+	"long_refute":          (*C.call)(C.causal_judge_long_refute),
+	"log_judge":            (*C.call)(C.causal_judge_log_judge),
+	"log_explain":          (*C.call)(C.causal_judge_log_explain),
+	"log_explain_words":    (*C.call)(C.causal_judge_log_explain_words),
+	"log_explain_picture":  (*C.call)(C.causal_judge_log_explain_picture),
+	"log_explain_page":     (*C.call)(C.causal_judge_log_explain_page),
+	"log_events":           (*C.call)(C.causal_judge_log_events),
 }
 
 // start is where a slice begins that has a byte at least: no pointer may be nil.
@@ -52,7 +69,7 @@ func ask(call *C.call, input []byte) (int, []byte) {
 
 func main() {
 	if len(os.Args) != 2 || commands[os.Args[1]] == nil {
-		fmt.Fprintln(os.Stderr, "usage: judge_go judge|check|explain|refute < FILE")
+		fmt.Fprintln(os.Stderr, "usage: judge_go CALL < FILE, where CALL is judge, explain, log_judge or another name in commands")
 		os.Exit(2)
 	}
 	input, err := io.ReadAll(os.Stdin)

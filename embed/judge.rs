@@ -1,19 +1,51 @@
 //! Answers standard input as the program does, through the library:
 //!
 //!     judge_rs judge < FILE
+//!
+//! Its word is the name of a call, such as `log_explain_page`.
 
 use std::io::{Read, Write, stderr, stdin, stdout};
 use std::process::ExitCode;
 
 type Call = unsafe extern "C" fn(*const u8, usize, *mut u8, usize, *mut usize) -> u8;
 
-// As causal_judge.h declares them. A slice crosses as its pointer and its length.
-#[link(name = "causal_judge", kind = "static")]
-unsafe extern "C" {
-    fn causal_judge_judge(input: *const u8, input_bytes: usize, answer: *mut u8, answer_bytes: usize, needed: *mut usize) -> u8;
-    fn causal_judge_check(input: *const u8, input_bytes: usize, answer: *mut u8, answer_bytes: usize, needed: *mut usize) -> u8;
-    fn causal_judge_explain(input: *const u8, input_bytes: usize, answer: *mut u8, answer_bytes: usize, needed: *mut usize) -> u8;
-    fn causal_judge_refute(input: *const u8, input_bytes: usize, answer: *mut u8, answer_bytes: usize, needed: *mut usize) -> u8;
+// Declares the calls as causal_judge.h does, and finds each by its name. A slice crosses as its pointer and its length.
+macro_rules! calls {
+    ($($name:literal $call:ident)*) => {
+        #[link(name = "causal_judge", kind = "static")]
+        unsafe extern "C" {
+            $(fn $call(input: *const u8, input_bytes: usize, answer: *mut u8, answer_bytes: usize, needed: *mut usize) -> u8;)*
+        }
+
+        fn command(name: &str) -> Option<Call> {
+            match name {
+                $($name => Some($call),)*
+                _ => None,
+            }
+        }
+    };
+}
+
+calls! {
+    "judge" causal_judge_judge
+    "check" causal_judge_check
+    "explain" causal_judge_explain
+    "explain_words" causal_judge_explain_words
+    "explain_picture" causal_judge_explain_picture
+    "explain_page" causal_judge_explain_page
+    "refute" causal_judge_refute
+    "long_judge" causal_judge_long_judge
+    "long_explain" causal_judge_long_explain
+    "long_explain_words" causal_judge_long_explain_words
+    "long_explain_picture" causal_judge_long_explain_picture
+    "long_explain_page" causal_judge_long_explain_page
+    "long_refute" causal_judge_long_refute
+    "log_judge" causal_judge_log_judge
+    "log_explain" causal_judge_log_explain
+    "log_explain_words" causal_judge_log_explain_words
+    "log_explain_picture" causal_judge_log_explain_picture
+    "log_explain_page" causal_judge_log_explain_page
+    "log_events" causal_judge_log_events
 }
 
 const LINES: usize = 128;
@@ -44,19 +76,9 @@ fn ask(call: Call, input: &[u8]) -> Answer {
     }
 }
 
-fn command(name: &str) -> Option<Call> {
-    match name {
-        "judge" => Some(causal_judge_judge),
-        "check" => Some(causal_judge_check),
-        "explain" => Some(causal_judge_explain),
-        "refute" => Some(causal_judge_refute),
-        _ => None,
-    }
-}
-
 fn main() -> std::io::Result<ExitCode> {
     let Some(call) = std::env::args().nth(1).as_deref().and_then(command) else {
-        eprintln!("usage: judge_rs judge|check|explain|refute < FILE");
+        eprintln!("usage: judge_rs CALL < FILE, where CALL is judge, explain, log_judge or another name of calls!");
         return Ok(ExitCode::from(2));
     };
     let mut input = Vec::new();

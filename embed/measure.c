@@ -7,21 +7,18 @@
  * where CALLS is the number of calls of a round.
  */
 #define _GNU_SOURCE
-#include "causal_judge.h"
+#include "calls.h"
 
 #include <pthread.h>
 #include <stdio.h>
 #include <stdlib.h>
-#include <string.h>
 #include <time.h>
-
-typedef uint8_t call(const uint8_t *, size_t, uint8_t *, size_t, size_t *);
 
 enum { STACK = 64 << 20, MARK = 0x5a };
 
 static uint8_t input[64 << 20], answer[16 << 20];
 static size_t input_bytes;
-static call *ask;
+static causal_judge_call *ask;
 
 static void *once(void *unused) {
     size_t needed;
@@ -68,12 +65,9 @@ static double least_time(int rounds, int calls) {
 }
 
 int main(int count, char **words) {
-    if (count != 4)
+    ask = count == 4 ? call_named(words[1]) : NULL;
+    if (ask == NULL)
         return 2;
-    ask = !strcmp(words[1], "judge") ? causal_judge_judge
-        : !strcmp(words[1], "check") ? causal_judge_check
-        : !strcmp(words[1], "explain") ? causal_judge_explain
-                                       : causal_judge_refute;
     input_bytes = fread(input, 1, sizeof input, stdin);
     double least = least_time(atoi(words[2]), atoi(words[3]));
     printf("%.1f %zu\n", least, stack_bytes());

@@ -29,8 +29,17 @@ EXAMPLES = (
     ("repeated_verdict", "judge"),
     ("checked_run", "check"),
     ("stale_read", "explain"),
+    ("stale_read", "explain_words"),
+    ("stale_read", "explain_page"),
     ("refuted_run", "refute"),
+    ("many_clients", "long_judge"),
+    ("events_lost_write", "log_judge"),
+    ("events_lost_write", "log_explain_page"),
+    ("events_lost_write", "log_events"),
 )
+
+# What is asked of a costly history: each call that reads it in a way of its own.
+OF_HISTORIES = ("judge", "explain", "explain_page", "check", "refute", "long_judge", "long_explain_page", "long_refute", "log_explain_page")
 
 
 def stack_wanted():
@@ -62,11 +71,11 @@ def of_examples():
     most = 0
     print("| input | command | bytes | C | Python | a process | stack |\n|---|---|---|---|---|---|---|")
     for name, command in EXAMPLES:
-        path = ROOT / "examples" / f"{name}.json"
+        path = ROOT / "examples" / (f"{name}.jsonl" if command.startswith("log_") else f"{name}.json")
         data = path.read_bytes()
-        words = [PROGRAM, command, *(["--json"] if command == "explain" else [])]
-        micros, stack = in_c(command, path, 5, 2000)
-        in_python = least(2000, lambda: causal_judge.ask(command, data))
+        words = [PROGRAM, *causal_judge.COMMANDS[command].split()]
+        micros, stack = in_c(command, path, 5, 500)
+        in_python = least(500, lambda: causal_judge.ask(command, data))
         process = least(40, lambda: subprocess.run(words, input=data, capture_output=True, check=False))
         print(f"| {name} | {command} | {len(data)} | {micros:.1f} | {in_python:.1f} | {process:.0f} | {stack} |", flush=True)
         most = max(most, stack)
@@ -81,7 +90,7 @@ def of_costly(folder):
     most = 0
     print("| input | command | seconds | stack |\n|---|---|---|---|")
     for it in inputs:
-        for command in ("judge", "explain", "check", "refute") if it.words[0] == "judge" else ("check",):
+        for command in OF_HISTORIES if it.words[0] == "judge" else ("check",):
             micros, stack = in_c(command, folder / f"{it.name}.json", 1, 1)
             print(f"| {it.name} | {command} | {micros / 1e6:.2f} | {stack} |", flush=True)
             most = max(most, stack)

@@ -10,12 +10,9 @@
  *
  * It is linked with --wrap for malloc, realloc and free.
  */
-#include "causal_judge.h"
+#include "calls.h"
 
 #include <stdio.h>
-#include <string.h>
-
-typedef uint8_t call(const uint8_t *, size_t, uint8_t *, size_t, size_t *);
 
 enum { MARK = 0x5a, ROOM = 1 << 16 };
 
@@ -47,12 +44,9 @@ void __wrap_free(void *block) {
 }
 
 int main(int count, char **words) {
-    if (count != 2)
+    causal_judge_call *ask = count == 2 ? call_named(words[1]) : NULL;
+    if (ask == NULL)
         return 2;
-    call *ask = !strcmp(words[1], "judge") ? causal_judge_judge
-              : !strcmp(words[1], "check") ? causal_judge_check
-              : !strcmp(words[1], "explain") ? causal_judge_explain
-                                             : causal_judge_refute;
     size_t input_bytes = fread(input, 1, sizeof input, stdin), due, needed;
     memset(marked, MARK, ROOM);
     memset(usual, MARK, ROOM);

@@ -12,7 +12,6 @@ answers in the place of crates/causal_judge/out/causal_judge.
 """
 
 import argparse
-import os
 import pathlib
 import shutil
 import subprocess
@@ -21,16 +20,15 @@ import sys
 HERE = pathlib.Path(__file__).resolve().parent
 ROOT = HERE.parent
 sys.path.insert(0, str(ROOT / "tests"))
+import compare  # noqa: E402
 import folders  # noqa: E402, F401
+from causal_judge import ANSWERED, COMMANDS  # noqa: E402
+from compare import PROGRAM  # noqa: E402
 from counting import end  # noqa: E402
 
 OUT = HERE / "out"
-PROGRAM = pathlib.Path(os.environ.get("CAUSAL_JUDGE") or ROOT / "crates" / "causal_judge" / "out" / "causal_judge")
 ARCHIVE = ROOT / "crates" / "causal_judge_library" / "out" / "libcausal_judge_library.a"
 C = ("cc", "-std=c11", "-O2", "-Wall", "-Wextra", "-Werror")
-
-# What is asked of each example: some answer it, and the others refuse it.
-COMMANDS = ("judge", "check", "explain", "refute")
 
 # The languages of the samples, with what installs each one's compiler.
 INSTALLS = {"C": "apt-get install gcc", "Rust": "apt-get install rustc", "Go": "apt-get install golang-go"}
@@ -41,7 +39,7 @@ def run(*words, cwd=HERE):
 
 
 def build_program():
-    if not PROGRAM.is_file():
+    if not pathlib.Path(PROGRAM).is_file():
         run("rt", "run", "--", "--help", cwd=ROOT / "crates" / "causal_judge")
 
 
@@ -81,9 +79,14 @@ def samples():
 
 
 def outcome(words, command, data):
-    words = [*words, command, *(["--json"] if words == [PROGRAM] and command == "explain" else [])]
-    done = subprocess.run(list(map(str, words)), input=data, capture_output=True, check=False)
+    done = subprocess.run(list(map(str, [*words, command])), input=data, capture_output=True, check=False)
     return done.returncode, done.stdout, done.stderr
+
+
+def outcome_due(command, data):
+    """The outcome of a sample: what the program answers goes to standard output, and its refusal to standard error."""
+    status, text = compare.of_program(command, data)
+    return (status, text, b"") if status == ANSWERED else (status, b"", text)
 
 
 def compared(due, inputs):
@@ -117,8 +120,6 @@ def refused(due, inputs):
 
 def compared_at_random(count):
     """How many random inputs have the same answer of the library and the program, and how many others, and none that were skipped."""
-    import compare  # which takes in the library, and so has to wait until that is built
-
     return *compare.compare(1, count, compare.THREADS), 0
 
 
@@ -128,8 +129,9 @@ def main():
     given = parser.parse_args()
     build_program()
     build_library()
-    inputs = {it.name: it.read_bytes() for it in sorted((ROOT / "examples").glob("*.json"))} | {"nothing": b""}
-    due = {(name, command): outcome([PROGRAM], command, data) for name, data in inputs.items() for command in COMMANDS}
+    inputs = {it.name: it.read_bytes() for it in sorted((ROOT / "examples").glob("*.json*"))} | {"nothing": b""}
+    # Some calls answer an example, and the others refuse it.
+    due = {(name, command): outcome_due(command, data) for name, data in inputs.items() for command in COMMANDS}
     counts = [compared(due, inputs), refused(due, inputs), compared_at_random(given.compare) if given.compare else (0, 0, 0)]
     end(*map(sum, zip(*counts)))
 

@@ -1,7 +1,7 @@
 -- How many read calls are made, where those that bring no byte are bounded in a row.
 use Rattle.std.proofs.Common.{◌≡◌, ◌<◌, ◌≤◌, ◌+◌, ◌*◌, ℕ, zero, suc, Ok, Err, ap, arith, add-mul, mul-le-mul_right, inl, inr}
-use Rattle.json_lines.specs.ReadCalls.{CallOutcome, Calls, CallsAtMost}
-use Rattle.app_engine.specs.ReadCalls.{EndsIdle, GivesBytes, GoOnIdle, GoesOn, IdlesAtMost, idle_after}
+use Rattle.json_lines.specs.ReadCalls.{CallOutcome, Calls, CallsAtMost, GoesOn}
+use Rattle.app_engine.specs.ReadCalls.{GivesBytes, GoOnIdle, IdlesAtMost, idle_after}
 
 module _ {S : Type 0} (called : S → CallOutcome → S → Type 0) (most : ℕ) (count : S → ℕ)
     (keeps : (a : S) (outcome : CallOutcome) (b : S) → called a outcome b → count a ≤ count b)

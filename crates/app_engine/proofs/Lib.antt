@@ -10,7 +10,10 @@ pub mod ReadCallLaws
 pub mod NotRefused
 pub mod ScriptOutcomes
 pub mod Outcomes
+pub mod Agreed
 pub mod Decided
 pub mod Reported
+pub mod MemoryLineLaws
 pub mod SealedTexts
 pub mod DriveOutcomes
+pub mod Faults

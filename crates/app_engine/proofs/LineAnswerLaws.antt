@@ -1,19 +1,16 @@
 -- What answers a line, and what answers all lines of an input.
 use Rattle.std.proofs.Common.{◌≡◌, ◌<◌, ◌≤◌, ◌++◌, ℕ, List, [], Some, length, Result, Ok, Err, IfOk, ◌∙◌, ap, sym, subst, inr, arith}
-use Rattle.std.specs.Prelude.{◌≢◌}
 use Rattle.app_command_line.specs.declared.expected.Expected.{Expected}
 use Rattle.app_command_line.specs.declared.length.Length.{Length}
 use Rattle.app_command_line.specs.declared.line_judging.BlankLines.{BlankLines}
 use Rattle.app_command_line.specs.declared.line_judging.LineJudging.{LineJudging}
 use Rattle.json_lines.specs.declared.fault.Fault.{Fault}
-use Rattle.json_lines.specs.declared.fault.Fault.TheVariants as faults
 use Rattle.json_lines.specs.declared.outcome.Outcome.{Outcome}
 use Rattle.json_lines.specs.LineHandlers.{AppendsAnswer, SaysOfLonger}
 use Rattle.json_lines.specs.Lines.{AllAreAnswered, AreAnswered, lines_of}
 use Rattle.app_engine.specs.declared.failure.RunError.{RunError}
-use Rattle.app_engine.specs.declared.failure.RunError.TheVariants.{TooLong, WriteFault}
+use Rattle.app_engine.specs.declared.failure.RunError.TheVariants.{TooLong}
 use Rattle.app_engine.specs.declared.input.TheConstants.{MAX_INPUT_BYTES}
-use Rattle.app_engine.specs.Failure.{stream_failure}
 use Rattle.app_engine.specs.LineAnswers.{IsHistoryAnswer, IsLineAnswer, IsLineError, IsSkipped}
 use Rattle.app_engine.specs.Steps.LineRefusals.{IsRefusalBy}
 
@@ -42,7 +39,3 @@ pub lines_answered : (judging : LineJudging) (input before text said : List ℕ)
 lines_answered judging input before text said outcome none same all =
     subst (λ (t : List ℕ). AreAnswered (IsLineAnswer judging) (lines_of input) t outcome) (sym (same ∙ all.written ∙ ap (λ b. b ++ all.text) none))
     (subst (λ (bytes : List ℕ). AreAnswered (IsLineAnswer judging) (lines_of bytes) all.text outcome) all.whole all.answered)
-
--- a run that did not fail for its writer failed for no fault of it
-pub not_written : (fault : Fault) (error : RunError) → error ≡ stream_failure fault → error ≢ WriteFault → fault ≢ faults.Write
-not_written fault error is other same = other (is ∙ ap stream_failure same)

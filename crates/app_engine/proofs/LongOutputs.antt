@@ -1,5 +1,5 @@
 -- What is written of a history of any length is an output on the input in which it was read.
-use Rattle.std.proofs.Common.{◌≡◌, ◌++◌, ℕ, List, Option, Some, None, subst, sym}
+use Rattle.std.proofs.Common.{◌≡◌, ℕ, List, Some, subst, sym}
 use Rattle.app_command_line.specs.declared.form.ListForm.{ListForm}
 use Rattle.app_command_line.specs.declared.form.ListForm.TheVariants as list_forms
 use Rattle.app_command_line.specs.declared.form.LongForm.{LongForm}
@@ -25,7 +25,7 @@ use Rattle.app_engine.specs.Steps.ReportErrors.{IsReportError}
 
 module _ (input : List ℕ) (history : AnyHistory) where
   pub explained_output : (form : LongForm) (text : List ℕ) → IsHistoryOf Any history → IsJson input (form_of history)
-      → IsExplainedBy Sessions form history text → IsOutput (ExplainLong form) input text
+      → IsExplainedBy Any Sessions form history text → IsOutput (ExplainLong form) input text
   explained_output long_forms.Words text is read said =
       record { history = history; findings = said.0; is_history = is; read = read; found = said.1; told = said.2 }
   explained_output long_forms.Json text is read said =
@@ -33,7 +33,7 @@ module _ (input : List ℕ) (history : AnyHistory) where
   explained_output long_forms.Picture text is read svg = record { history = history; is_history = is; read = read; drawn = svg }
 
   pub listed_output : (form : ListForm) (long : Length) (most : ℕ) (text : List ℕ) → IsHistoryOf long history → IsJson input (form_of history)
-      → IsListBy Sessions form most history text → IsListedAs form long most input text
+      → IsListBy long Sessions form most history text → IsListedAs form long most input text
   listed_output list_forms.Words long most text is read said =
       record { history = history; findings = said.0; is_history = is; read = read; found = said.1; told = said.2 }
   listed_output list_forms.Json long most text is read said =

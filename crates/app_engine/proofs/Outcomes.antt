@@ -93,6 +93,11 @@ one_form Any (histories.Counters g) h is_g is_h same = absurd is_g
 one_form Any (histories.Sets g) h is_g is_h same = absurd is_g
 one_form Any (histories.Queues g) h is_g is_h same = absurd is_g
 
+-- a text has one history, of either length
+pub same_history : (long : Length) (text : List ℕ) (g h : AnyHistory) → IsHistoryOf long g → IsHistoryOf long h → IsJson text (form_of g)
+    → IsJson text (form_of h) → g ≡ h
+same_history long text g h is_g is_h first second = one_form long g h is_g is_h (one_value text (form_of g) (form_of h) first second)
+
 two_elements : (a b x y : Data) → a ∷ x ∷ [] ≡ b ∷ y ∷ [] → (a ≡ b) × (x ≡ y)
 two_elements a b x y same = let first : a ≡ b = cc in let second : x ≡ y = cc in (first, second)
 

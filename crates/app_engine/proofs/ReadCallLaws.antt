@@ -1,9 +1,9 @@
 -- One read call more.
 use Rattle.std.proofs.Common.{◌≡◌, ◌≢◌, ◌<◌, ◌≤◌, ◌+◌, ℕ, zero, suc, Ok, Err, refl, sym, ap, arith, add-one, inl, inr}
-use Rattle.json_lines.specs.ReadCalls.{CallOutcome, Calls, CallsAtMost}
+use Rattle.json_lines.specs.ReadCalls.{CallOutcome, Calls, CallsAtMost, GoOn, GoesOn}
 use Rattle.app_engine.specs.declared.read_call.Given.{Given}
 use Rattle.app_engine.specs.declared.read_call.Given.TheVariants.{Bytes, Nothing, End}
-use Rattle.app_engine.specs.ReadCalls.{CameTo, EndsIdle, GivesBytes, GoOn, GoOnIdle, GoesOn, IdlesAtMost, IsInterrupted, idle_after}
+use Rattle.app_engine.specs.ReadCalls.{CameTo, EndsIdle, GivesBytes, GoOnIdle, IdlesAtMost, IsInterrupted, idle_after}
 
 module _ {S : Type 0} (called : S → CallOutcome → S → Type 0) where
   pub no_call : (s : S) → GoOn called 0 s s

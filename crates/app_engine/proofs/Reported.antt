@@ -1,5 +1,5 @@
 -- A report on the history in an input.
-use Rattle.std.proofs.Common.{◌≤◌, List, ℕ, refl, length, Option, None, Some, Result, Ok, Err, IfOk, IfSome}
+use Rattle.std.proofs.Common.{◌≤◌, List, ℕ, refl, length, Option, None, Some, IfSome}
 use Rattle.json_histories.specs.declared.any_history.AnyHistory.{AnyHistory}
 use Rattle.json_histories.specs.AnyForm.{form_of, IsAnyHistory, IsJson}
 use Rattle.json_histories.specs.declared.any_history.AnyHistory.TheVariants as histories
@@ -30,9 +30,11 @@ reported input history report is read found = (
     report = report;
     is_history = is;
     read = read;
-    true_of = found-true Answers history report found;
-    unknown = found-known Answers history report found;
-    unexplained = found-names Answers history report found;
+    answers = record {
+      true_of = found-true Answers history report found;
+      unknown = found-known Answers history report found;
+      unexplained = found-names Answers history report found;
+    };
     lines = refl;
   },
   refl,
@@ -54,9 +56,7 @@ reported_long input h report is read true_of unknown unexplained = (
     report = report;
     is_history = is;
     read = read;
-    true_of = true_of;
-    unknown = unknown;
-    unexplained = unexplained;
+    answers = record { true_of = true_of; unknown = unknown; unexplained = unexplained };
     lines = refl;
   },
   refl,

@@ -29,9 +29,11 @@ true_text input history named text same sealed (report, is_history, found, is) =
     report_is_true = record {
       is_history = is_history;
       sealed = subst (λ (h : AnyHistory). IsSealedFrom input h) (sym same) sealed;
-      true_of = found-true Answers named report found;
-      unknown = found-known Answers named report found;
-      unexplained = found-names Answers named report found;
+      answers = record {
+        true_of = found-true Answers named report found;
+        unknown = found-known Answers named report found;
+        unexplained = found-names Answers named report found;
+      };
     }
 
 -- the form of a history and the lines of a report on it are what is found of it

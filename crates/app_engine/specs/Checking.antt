@@ -1,11 +1,8 @@
 -- What is said of a history and a certificate of it.
-use Rattle.std.specs.Prelude.{◌≡◌, ◌≢◌, ℕ, List, [], ◌∷◌, Option, Some, None}
+use Rattle.std.specs.Prelude.{◌≡◌, ◌≢◌, ℕ, List}
 use Rattle.serde_json.specs.Data.{Data}
-use Rattle.json_histories.specs.declared.read_error.ReadError.{ReadError}
-use Rattle.json_histories.specs.declared.read_error.ReadError.TheVariants as errors
 use Rattle.json_histories.specs.declared.any_history.AnyHistory.{AnyHistory}
-use Rattle.json_histories.specs.Json.{list}
-use Rattle.json_histories.specs.AnyForm.{first_refusal, form_of, IsAnyHistory, IsJson}
+use Rattle.json_histories.specs.AnyForm.{form_of, IsAnyHistory, IsJson}
 use Rattle.cert_check.specs.declared.certificate.Certificate.{Certificate}
 use Rattle.cert_check.specs.Certificates.{criterion_of}
 use Rattle.cert_check.specs.CertificateForm.{form_of as certificate_form, IsCertificate}

@@ -10,11 +10,11 @@ use Rattle.json_histories.specs.AnyForm.{form_of, IsAnyHistory, IsJson}
 use Rattle.app_command_line.specs.declared.order.Order.{Order}
 use Rattle.app_command_line.specs.declared.order.Order.TheVariants as orders
 use Rattle.app_command_line.specs.declared.drive.Drive.{Drive}
+use Rattle.app_command_line.specs.declared.length.Length.TheVariants.{Limited}
 use Rattle.app_engine.specs.declared.failure.RunError.{RunError}
 use Rattle.app_engine.specs.declared.failure.RunError.TheVariants.{BadLimits, NoSuch, Memory}
 use Rattle.app_findings.specs.declared.finding.Findings.{Findings}
-use Rattle.app_findings.specs.Findings.{EachIsTrueOf, EachNamesUnexplained, EachIsKnownOnDistinctValues}
-use Rattle.app_explanations.specs.Report.{text_for}
+use Rattle.app_explanations.specs.Report.{IsReportOf, text_for}
 
 -- a fact about two histories of one object
 abbrev pub Relation : Type 1
@@ -32,7 +32,7 @@ AreRelated relation (histories.Sets g) (histories.Sets h) = relation _ _ _ g h
 AreRelated relation (histories.Queues g) (histories.Queues h) = relation _ _ _ g h
 AreRelated relation _ _ = ⊥
 
--- a history is of the input's object, and has its start and as many sessions
+-- a history is of the input's object, and has its start and as many sessions, and in each the first calls of that session of the input, and no others
 abbrev pub IsSealedFrom : AnyHistory → AnyHistory → Type 0
 IsSealedFrom input history = AreRelated (λ S C R g h. IsOfInput g h) input history
 
@@ -65,9 +65,7 @@ text_of s = compact_text (form_of s.history) ++ (codes "\n" ++ text_for s.report
 pub record IsTrueReport (input : AnyHistory) (s : SealedReport) : Type 0 where
   pub is_history : IsAnyHistory s.history
   pub sealed : IsSealedFrom input s.history
-  pub true_of : EachIsTrueOf s.history s.report
-  pub unknown : EachIsKnownOnDistinctValues s.history s.report
-  pub unexplained : EachNamesUnexplained s.history s.report
+  pub answers : IsReportOf Limited s.history s.report
 
 -- there is a session, and the one that stops is there
 pub record CanDrive (stop : Option ℕ) (sessions : ℕ) : Type 0 where

@@ -4,8 +4,8 @@ use Rattle.app_command_line.specs.declared.length.Length.{Length}
 use Rattle.app_command_line.specs.declared.length.Length.TheVariants.{Limited, Any}
 use Rattle.app_command_line.specs.declared.order.Order.{Order}
 use Rattle.app_command_line.specs.declared.order.Order.TheVariants.{Judge, ExplainLong, ListFaults, Refute}
-use Rattle.json_lines.specs.ReadCalls.{CallOutcome, CallsAtMost}
-use Rattle.app_engine.specs.ReadCalls.{EndsBy, EndsIdle, FindsNoEnd, FindsNoEndIdle, IdlesAtMost}
+use Rattle.json_lines.specs.ReadCalls.{CallOutcome, CallsAtMost, EndsBy, FindsNoEnd}
+use Rattle.app_engine.specs.ReadCalls.{EndsIdle, FindsNoEndIdle, IdlesAtMost}
 use Rattle.app_engine.specs.declared.input.TheConstants.{MAX_INPUT_BYTES, MAX_LONG_INPUT_BYTES}
 
 -- how long the history of an order may be

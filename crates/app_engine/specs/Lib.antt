@@ -8,5 +8,7 @@ pub mod Alone
 pub mod Expecting
 pub mod LineAnswers
 pub mod Running
+pub mod MemoryLines
+pub mod Endings
 pub mod ReadCalls
 pub mod Steps

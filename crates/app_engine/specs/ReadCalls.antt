@@ -1,17 +1,12 @@
 -- How a reading of a source ends, by what the source tells of each read call: the states before and after it, and its outcome.
-use Rattle.std.specs.Prelude.{◌≡◌, ◌≢◌, ◌+◌, ◌<◌, ◌⊎◌, ℕ, zero, suc, Result, Ok, Err}
+use Rattle.std.specs.Prelude.{◌≡◌, ◌+◌, ◌<◌, ◌⊎◌, ℕ, zero, suc, Result, Ok, Err}
 use Rattle.std.specs.IoError.{error_kind}
 use Rattle.std.specs.declared.io.ErrorKind.TheVariants.{Interrupted}
-use Rattle.json_lines.specs.ReadCalls.{CallOutcome}
+use Rattle.json_lines.specs.ReadCalls.{CallOutcome, GoesOn, IsEnd, IsFailure}
 use Rattle.app_engine.specs.declared.failure.RunError.{RunError}
 use Rattle.app_engine.specs.declared.failure.RunError.TheVariants.{TooLong, Memory, ReadFault}
 use Rattle.app_engine.specs.declared.read_call.Given.{Given}
 use Rattle.app_engine.specs.declared.read_call.Given.TheVariants.{Bytes, Nothing, End}
-
--- it gave bytes or was interrupted, and reading goes on
-abbrev pub GoesOn : CallOutcome → Type 0
-GoesOn (Ok count) = 0 < count
-GoesOn (Err e) = error_kind e ≡ Interrupted
 
 -- it gave bytes
 abbrev pub GivesBytes : CallOutcome → Type 0
@@ -22,15 +17,6 @@ GivesBytes (Err e) = ⊥
 abbrev pub IsInterrupted : CallOutcome → Type 0
 IsInterrupted (Ok count) = ⊥
 IsInterrupted (Err e) = error_kind e ≡ Interrupted
-
--- it found the end
-abbrev pub IsEnd : CallOutcome → Type 0
-IsEnd outcome = outcome ≡ Ok 0
-
--- it failed, and was not interrupted
-abbrev pub IsFailure : CallOutcome → Type 0
-IsFailure (Ok count) = ⊥
-IsFailure (Err e) = error_kind e ≢ Interrupted
 
 -- what is made of a read call: it found the end, it gave bytes or was interrupted, the reader failed, or the bytes could not be kept
 abbrev pub CameTo : CallOutcome → Result Given RunError → Type 0
@@ -48,20 +34,6 @@ idle_after (Ok count) before = 0
 idle_after (Err e) before = before + 1
 
 module _ {S : Type 0} (called : S → CallOutcome → S → Type 0) where
-  -- so many read calls, after each of which reading goes on
-  unfoldable pub GoOn : ℕ → S → S → Type 0
-  GoOn zero old new = old ≡ new
-  GoOn (suc n) old new = (between : S) × (outcome : CallOutcome) × GoOn n old between × GoesOn outcome × called between outcome new
-
-  -- at most so many read calls: after each but the last reading goes on, and of the last this holds
-  abbrev pub EndsBy : ℕ → (CallOutcome → Type 0) → S → S → Type 0
-  EndsBy most Last old new =
-      (n : ℕ) × (between : S) × (outcome : CallOutcome) × (n < most) × GoOn n old between × Last outcome × called between outcome new
-
-  -- no end was found: in so many read calls, or the last of at most so many failed
-  abbrev pub FindsNoEnd : ℕ → S → S → Type 0
-  FindsNoEnd most old new = GoOn most old new ⊎ EndsBy most IsFailure old new
-
   -- so many read calls, after each of which reading goes on: the last `idle` of them brought no byte, and never more than `most` in a row
   unfoldable pub GoOnIdle : ℕ → ℕ → ℕ → S → S → Type 0
   GoOnIdle most zero idle old new = (old ≡ new) × (idle ≡ 0)

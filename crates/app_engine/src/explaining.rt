@@ -12,17 +12,16 @@ use app_explanations::{
 };
 use app_findings::PieceWork;
 use json_histories::{AnyHistory, read_history};
+use judge_decision::SessionWork;
 use judge_reader::read_long;
 use show_words::OwnNames;
 use std::alloc::{AllocError, Global};
-use std::sync::Wait;
-use std::thread::Threads;
 
 /// Why the history in the input meets each criterion or does not, in a form.
 ///
 /// Refuses what is no history, and fails for want of memory. It costs what [`findings_of`](crate::findings_of) and the form take, and O(n)
 /// for n bytes that are read and written.
-pub(crate) fn explain_as<W: PieceWork>(
+pub fn explain_as<W: PieceWork>(
     work: &W,
     alloc: Global,
     input: &[u8],
@@ -61,17 +60,19 @@ fn text_in<W: PieceWork>(
 ///
 /// For a history within the limits of [`History`](operations::History) it is the text of `explain`, except for the words after a yes.
 /// Refuses what is no such history, and fails for want of memory. The cost is that of reading it and of [`explained_long`].
-pub fn explain_long<T: Threads + Wait + Sync>(
-    rt: &T,
+pub fn explain_long<W: PieceWork + SessionWork>(
+    work: &W,
     alloc: Global,
     input: &[u8],
     form: LongForm,
 ) -> Result<String, RunError>
+    requires can_check { W.can_check work.now }
+    requires can_work { W.can_work work.now }
     ensures output { IfOk result (λ text. IsOutput (Order.ExplainLong form) input.now (string_bytes text)) }
     ensures error { IfErr result (IsOutputError (Order.ExplainLong form) input.now) }
 {
     let history = read_long(alloc, input)?;
-    let text = explained_long(rt, alloc, &history, form);
+    let text = explained_long(work, alloc, &history, form);
     drop(history);
     Ok(text?)
 }

@@ -3,8 +3,8 @@ ghost use Rattle.std.specs.Prelude.{◌≡◌, ◌<◌, ◌≤◌, Err, IfErr, I
 ghost use Rattle.std.specs.Io.KnownBytes.{IsAtEnd};
 ghost use Rattle.app_engine.specs.Failure.{IsInputError};
 ghost use Rattle.app_engine.specs.InputLengths.{CallsFor, EndsFor, FindsNoEndFor, most_bytes};
-ghost use Rattle.json_lines.specs.ReadCalls.{CallsAtMost};
-ghost use Rattle.app_engine.specs.ReadCalls.{EndsBy, EndsIdle, FindsNoEnd, FindsNoEndIdle, IdlesAtMost, IsEnd};
+ghost use Rattle.json_lines.specs.ReadCalls.{CallsAtMost, EndsBy, FindsNoEnd, IsEnd};
+ghost use Rattle.app_engine.specs.ReadCalls.{EndsIdle, FindsNoEndIdle, IdlesAtMost};
 ghost use Rattle.app_engine.specs.Steps.Transfer.{Gives};
 
 use crate::failure::RunError;
@@ -110,5 +110,26 @@ pub fn read_input_for<R: Source>(
     match long {
         Length::Limited => read_input(alloc, reader),
         Length::Any => read_long_input(alloc, reader),
+    }
+}
+
+/// Refuses an input in memory that is longer than what is read where a history may have this length.
+pub fn stay_within(input: &[u8], long: Length) -> Result<(), RunError>
+    ensures within { OnOk result (length input.now ≤ most_bytes long) }
+    ensures error { IfErr result (λ e. (e ≡ RunError.TooLong) × (most_bytes long < length input.now)) }
+{
+    if input.len() > most_bytes_of(long) {
+        return Err(RunError::TooLong);
+    }
+    Ok(())
+}
+
+// The most bytes of an input whose history may have this length.
+fn most_bytes_of(long: Length) -> usize
+    ensures { result ≡ most_bytes long }
+{
+    match long {
+        Length::Limited => MAX_INPUT_BYTES,
+        Length::Any => MAX_LONG_INPUT_BYTES,
     }
 }

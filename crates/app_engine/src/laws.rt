@@ -10,8 +10,15 @@ ghost use Rattle.json_lines.specs.ReadCalls.{CallOutcome, CallsAtMost};
 ghost use Rattle.app_engine.specs.ReadCalls.{GivesBytes, IdlesAtMost};
 ghost use Rattle.app_findings.specs.Findings.{answer_for};
 ghost use Rattle.app_engine.specs.Running.{Completes, Fails, IsOutput, IsOutputError};
+ghost use Rattle.app_command_line.specs.declared.length.Length.{Length};
 ghost use Rattle.app_command_line.specs.declared.length.Length.TheVariants.{Any};
+ghost use Rattle.app_command_line.specs.declared.form.ListForm.TheVariants.{Json, Words};
 ghost use Rattle.judge_memory.specs.LongHistories.{IsLongHistory};
+ghost use Rattle.app_explanations.specs.Agreeing.{Agree};
+ghost use Rattle.app_explanations.specs.Certifying.{IsCertifiedExplanation};
+ghost use Rattle.app_explanations.specs.Explaining.{IsExplanationAt};
+ghost use Rattle.app_explanations.specs.ExplainingInWords.{IsWordedAt};
+ghost use Rattle.app_explanations.specs.ListingFaults.{IsListedAs};
 ghost use Rattle.app_explanations.specs.Report.{IsReport, IsReportAt};
 
 use crate::failure::RunError;
@@ -54,6 +61,21 @@ pub fn long_distinct_values_are_decided()
     ensures excluded { (input text : List ℕ) (report : IsReportAt Any input text) (h : MemoryHistory) (criterion : Criterion)
         → report.history ≡ AnyHistory.Memory h → IsDifferentiated h
         → ((kind : Kind) × (answer_for report.report criterion ≡ Answer.No kind)) ↔ ¬ Meets memory_answer h criterion }
+{}
+
+/// What `explain` shows of an input agrees with what `judge` says of it: in words, as JSON, with certificates and in lists of faults. One never
+/// says yes where the other says no. On a memory of distinct values both say the same word, and within the limits a no names the same kind.
+pub fn explanations_agree_with_reports()
+    ensures words { (long : Length) (input text words : List ℕ) (report : IsReportAt long input text)
+        (told : IsWordedAt long input words) → Agree report.history report.report told.findings }
+    ensures json { (long : Length) (input text json : List ℕ) (report : IsReportAt long input text)
+        (told : IsExplanationAt long input json) → Agree report.history report.report told.said.findings }
+    ensures certificates { (input text json : List ℕ) (report : IsReport input text)
+        (told : IsCertifiedExplanation input json) → Agree report.history report.report told.said.findings }
+    ensures list_in_words { (long : Length) (most : ℕ) (input text list : List ℕ) (report : IsReportAt long input text)
+        (told : IsListedAs Words long most input list) → Agree report.history report.report told.findings }
+    ensures list_as_json { (long : Length) (most : ℕ) (input text list : List ℕ) (report : IsReportAt long input text)
+        (told : IsListedAs Json long most input list) → Agree report.history report.report told.said.findings }
 {}
 
 /// An input that has an answer is never refused. Only want of memory can come in place of its answer.

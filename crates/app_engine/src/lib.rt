@@ -27,7 +27,10 @@ mod refuting;
 mod replaying;
 mod running;
 
-pub use alone::{check_alone, explain_alone, judge_alone, refute_alone};
+pub use alone::{
+    check_alone, explain_alone, explain_as_alone, explain_long_alone, judge_alone,
+    judge_long_alone, refute_alone, refute_long_alone,
+};
 pub use answered::Answered;
 pub use app_command_line::{
     BlankLines, Delivery, Drive, Expected, Form, Judging, Length, LineJudging, ListForm, Listing,
@@ -41,15 +44,16 @@ pub use app_judging::Answer;
 pub use drivable::Drivable;
 pub use driving::drive_with;
 pub use expecting::outcome_of;
-pub use explaining::explain_long;
+pub use explaining::{explain_as, explain_long};
 pub use failure::{RunError, fault_line, status_of};
 pub use input::{
-    MAX_INPUT_BYTES, MAX_LONG_INPUT_BYTES, read_input, read_input_for, read_long_input,
+    MAX_INPUT_BYTES, MAX_LONG_INPUT_BYTES, read_input, read_input_for, read_long_input, stay_within,
 };
-pub use json_lines::{MAX_READ_CALLS, Outcome, Source};
+pub use json_lines::{MAX_READ_CALLS, MAX_WRITE_CALLS, Outcome, Sink, Source};
 pub use judge_decision::SessionWork;
 pub use judge_workers::{CallingThread, Gate, OpenGate, WorkerThreads, Workers};
 pub use line_answers::joined_text;
 pub use line_judge::judge_lines;
+pub use listing_faults::list_faults;
 pub use output::write_output;
 pub use running::{answer_to, run, run_keeping};

@@ -34,6 +34,7 @@ pub(crate) fn append_answer(
 ) -> Result<Outcome, Fault>
     ensures answered { IfOk result (AppendsAnswer (IsLineAnswer judging line.now) text.old.items text.new.items) }
     ensures unchanged { OnErr result (text.new.items ≡ text.old.items) }
+    ensures error { IfErr result (λ e. e ≡ Fault.Memory) }
 {
     if is_skipped(judging.blank, line) {
         text.extend_from_slice(b"\n")?;
@@ -64,6 +65,7 @@ fn append_answer_on_history(
     ensures answered { IfOk result
         (AppendsAnswer (IsHistoryAnswer judging.length judging.expected line.now) text.old.items text.new.items) }
     ensures unchanged { OnErr result (text.new.items ≡ text.old.items) }
+    ensures error { IfErr result (λ e. e ≡ Fault.Memory) }
 {
     match report_on_line(alloc, scratch, line, judging.length) {
         Ok(report) => {
@@ -141,6 +143,7 @@ pub(crate) fn append_refusal(
 ) -> Result<Outcome, Fault>
     ensures answered { IfOk result (AppendsAnswer (IsRefusalBy error.now) text.old.items text.new.items) }
     ensures unchanged { OnErr result (text.new.items ≡ text.old.items) }
+    ensures error { IfErr result (λ e. e ≡ Fault.Memory) }
 {
     if status_of(&Err(*error)) != 1 {
         return Err(Fault::Memory);

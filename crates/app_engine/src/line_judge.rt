@@ -1,7 +1,9 @@
 //! Judging many histories, each in a line of its own.
-ghost use Rattle.std.specs.Prelude.{◌≡◌, ◌≢◌, ◌⊎◌, IfErr, IfOk, OnOk, string_bytes};
+ghost use Rattle.std.specs.Prelude.{◌≡◌, ◌≢◌, ◌⊎◌, Err, IfErr, IfOk, OnErr, OnOk, string_bytes};
 ghost use Rattle.std.specs.Io.KnownBytes.{IsAtEnd};
-ghost use Rattle.json_lines.specs.Lines.{AllAreAnswered, FirstAreAnswered};
+ghost use Rattle.json_lines.specs.Lines.{AllAreAnswered, FirstAreAnswered, FirstAreBegun};
+ghost use Rattle.json_lines.specs.ReadCalls.{CallsOnceAtMost, EndsBy, FindsNoEnd, IsEnd, IsFurther, ReadsOn};
+ghost use Rattle.json_lines.specs.WriteCalls.{FailsToTake, IsPassedOn};
 ghost use Rattle.app_engine.specs.LineAnswers.{IsLineAnswer};
 ghost use Rattle.app_engine.specs.Running.{HasOutcome, IsOutput, IsOutputError};
 
@@ -12,9 +14,8 @@ use crate::line_answers::{append_answer, append_refusal};
 use app_command_line::{LineJudging, Order};
 use json::Scratch;
 use json_line_workers::answer_lines;
-use json_lines::{Fault, LineHandler, Outcome, Source};
+use json_lines::{Fault, LineHandler, MAX_READ_CALLS, MAX_WRITE_CALLS, Outcome, Sink, Source};
 use std::alloc::Global;
-use std::io::Write;
 use std::sync::Wait;
 use std::thread::Threads;
 
@@ -26,19 +27,30 @@ use std::thread::Threads;
 /// last line may lack its line feed. Each worker judges lines of its own, one after the other, while the others read and judge on. The
 /// answers to whole lines that were read do not wait for further input, as [`answer_lines`] says.
 ///
-/// It fails if the reader or the writer does, or memory runs out for a line. What was answered before stays written then. The
-/// cost is that of `judge` for each line.
-#[tactic(auto, using(crate::proofs::LineAnswerLaws::not_written))]
+/// It fails if the reader or the writer does, or memory runs out for a line. What was answered before stays written then, and after a
+/// write fault a beginning of further answers may be. No read call is made after the end or after one that failed. The cost is that of
+/// `judge` for each line.
+#[tactic(auto, using(crate::proofs::Faults::not_written, crate::proofs::Faults::read_failed, crate::proofs::Faults::write_failed))]
 pub fn judge_lines<
     P: Threads + Wait + Sync + AllocGlobal,
     R: Source + Drop + Send,
-    W: Write + Drop + Send,
+    W: Sink + Drop + Send,
 >(rt: &P, reader: R, writer: W, judging: LineJudging) -> (R, W, Result<Outcome, RunError>)
     ensures answered { IfOk result.2 (AllAreAnswered (IsLineAnswer judging)
         (R.remaining reader) (W.contents writer) (W.contents result.1)) }
     ensures end { OnOk result.2 (IsAtEnd (R.remaining result.0)) }
     ensures faulted { IfErr result.2 (λ e. e ≢ RunError.WriteFault → FirstAreAnswered (IsLineAnswer judging)
         (R.remaining reader) (W.contents writer) (W.contents result.1)) }
+    ensures begun { OnErr result.2
+        (FirstAreBegun (IsLineAnswer judging) (R.remaining reader) (W.contents writer) (W.contents result.1)) }
+    ensures read_on { IsFurther (R.remaining reader) (R.remaining result.0) }
+
+    // Whatever the reader and the writer report of their calls.
+    ensures calls { ReadsOn R.called (CallsOnceAtMost R.called) reader result.0 }
+    ensures end_found { OnOk result.2 (ReadsOn R.called (EndsBy R.called MAX_READ_CALLS IsEnd) reader result.0) }
+    ensures fault { result.2 ≡ Err RunError.ReadFault → ReadsOn R.called (FindsNoEnd R.called MAX_READ_CALLS) reader result.0 }
+    ensures passed_on { result.2 ≢ Err RunError.WriteFault → IsPassedOn W.called writer result.1 }
+    ensures write_fault { result.2 ≡ Err RunError.WriteFault → FailsToTake W.called MAX_WRITE_CALLS writer result.1 }
     ensures error { IfErr result.2 (λ e. (e ≡ RunError.Memory) ⊎ ((e ≡ RunError.ReadFault) ⊎ (e ≡ RunError.WriteFault))) }
 {
     let alloc = rt.alloc();

@@ -10,41 +10,44 @@ ghost use Rattle.app_engine.specs.Steps.ReportErrors.{IsReportError};
 use crate::failure::RunError;
 use app_command_line::{Length, ListForm, Listing, Order};
 use app_explanations::{list_in_limited, listed_long};
+use app_findings::PieceWork;
 use json_histories::{AnyHistory, read_history};
+use judge_decision::SessionWork;
 use judge_memory::LongHistory;
 use judge_reader::read_long;
 use std::alloc::Global;
-use std::sync::Wait;
-use std::thread::Threads;
 
 /// Lists reads of the history in the input that show a fault: each returned a value that nobody wrote, or missed a write.
 ///
 /// The lines of `judge` come first, with the pattern of a kind that no read shows by itself. Refuses what is no history, and fails for
 /// want of memory. It costs what `explain` costs, and O(n k) for n operations of k sessions.
 #[tactic(auto, using(crate::proofs::LongOutputs::error_listed))]
-pub fn list_faults<T: Threads + Wait + Sync>(
-    rt: &T,
+pub fn list_faults<W: PieceWork + SessionWork>(
+    work: &W,
     alloc: Global,
     input: &[u8],
     listing: Listing,
 ) -> Result<String, RunError>
+    requires can_check { W.can_check work.now }
+    requires can_work { W.can_work work.now }
     ensures output { IfOk result (λ text. IsOutput (Order.ListFaults listing) input.now (string_bytes text)) }
     ensures error { IfErr result (IsOutputError (Order.ListFaults listing) input.now) }
 {
     match listing.length {
-        Length::Limited => { list_in_limited_input(rt, alloc, input, listing.most, listing.form) }
-        Length::Any => list_in_long_input(rt, alloc, input, listing.most, listing.form),
+        Length::Limited => { list_in_limited_input(work, alloc, input, listing.most, listing.form) }
+        Length::Any => list_in_long_input(work, alloc, input, listing.most, listing.form),
     }
 }
 
 // The list of the history in an input, within the limits. A memory history is read once more, as one of any length.
-fn list_in_limited_input<T: Threads + Wait + Sync>(
-    rt: &T,
+fn list_in_limited_input<W: PieceWork>(
+    work: &W,
     alloc: Global,
     input: &[u8],
     most: u32,
     form: ListForm,
 ) -> Result<String, RunError>
+    requires { W.can_check work.now }
     ensures list { IfOk result (λ text. IsListedAs form Length.Limited most input.now (string_bytes text)) }
     ensures error { IfErr result (IsReportError Length.Limited input.now) }
 {
@@ -52,7 +55,7 @@ fn list_in_limited_input<T: Threads + Wait + Sync>(
     match long_of(alloc, input, &history) {
         Ok(long) => {
             let long = long.as_ref();
-            Ok(list_in_limited(rt, alloc, history, long, most, form)?)
+            Ok(list_in_limited(work, alloc, history, long, most, form)?)
         }
         Err(error) => {
             history.discard();
@@ -82,18 +85,20 @@ fn long_of(
 }
 
 // The list of the history in an input, of any length.
-fn list_in_long_input<T: Threads + Wait + Sync>(
-    rt: &T,
+fn list_in_long_input<W: PieceWork + SessionWork>(
+    work: &W,
     alloc: Global,
     input: &[u8],
     most: u32,
     form: ListForm,
 ) -> Result<String, RunError>
+    requires can_check { W.can_check work.now }
+    requires can_work { W.can_work work.now }
     ensures list { IfOk result (λ text. IsListedAs form Length.Any most input.now (string_bytes text)) }
     ensures error { IfErr result (IsReportError Length.Any input.now) }
 {
     let history = read_long(alloc, input)?;
-    let text = listed_long(rt, alloc, &history, most, form);
+    let text = listed_long(work, alloc, &history, most, form);
     drop(history);
     Ok(text?)
 }

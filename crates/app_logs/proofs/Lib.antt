@@ -2,3 +2,6 @@ pub mod CutLines
 pub mod Faults
 pub mod NoteTexts
 pub mod Watched
+pub mod LogLineLaws
+pub mod TextListLaws
+pub mod LogTextLaws

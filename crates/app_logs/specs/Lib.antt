@@ -2,5 +2,9 @@ pub mod Failure
 pub mod Reports
 pub mod ReadLogs
 pub mod Notes
+pub mod TextLists
+pub mod LogTexts
 pub mod LogAnswers
+pub mod Alone
+pub mod LogLines
 pub mod Steps

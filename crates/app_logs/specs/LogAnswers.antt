@@ -19,6 +19,7 @@ use Rattle.log_reader.specs.declared.refusal.Refusal.{Refusal}
 use Rattle.app_logs.specs.declared.failure.LogError.{LogError}
 use Rattle.app_logs.specs.declared.failure.LogError.TheVariants.{Refused}
 use Rattle.app_logs.specs.declared.following.Followed.{Followed}
+use Rattle.app_logs.specs.LogTexts.{AreNames}
 use Rattle.app_logs.specs.Notes.{AreNotes}
 use Rattle.app_logs.specs.Reports.{AreCuts, AreCutLines, IsReportOn, any_history_of, multiples}
 
@@ -29,7 +30,7 @@ IsLogAnswer (Judge judging) log text outcome =
 IsLogAnswer (Explain form) log text outcome = IsExplainedAs form (any_history_of log.events) text × (outcome ≡ Met)
 IsLogAnswer (ListFaults most form) log text outcome = IsListOf form most (any_history_of log.events) text × (outcome ≡ Met)
 IsLogAnswer WriteHistory log text outcome = (text ≡ compact_text (form_of (any_history_of log.events)) ++ codes "\n") × (outcome ≡ Met)
-IsLogAnswer WriteNames log text outcome = outcome ≡ Met
+IsLogAnswer WriteNames log text outcome = AreNames log text × (outcome ≡ Met)
 IsLogAnswer WriteNotes log text outcome = AreNotes text × (outcome ≡ Met)
 
 -- a log was read whole, and the answer to it was written after what the writer held: where the reader and the writer tell their bytes

@@ -11,8 +11,7 @@ use Rattle.json_lines.specs.Outcomes.{worse}
 use Rattle.log_events.specs.declared.event.Event.{Event}
 use Rattle.log_events.specs.Histories.{history_of}
 use Rattle.app_findings.specs.declared.finding.Findings.{Findings}
-use Rattle.app_findings.specs.Findings.{EachIsKnownOnDistinctValues, EachNamesUnexplained}
-use Rattle.app_explanations.specs.Report.{EachIsTrueAt}
+use Rattle.app_explanations.specs.Report.{IsReportOf}
 use Rattle.app_engine.specs.Expecting.{outcome_for}
 use Rattle.app_engine.specs.LineAnswers.{joined_for}
 
@@ -20,11 +19,9 @@ use Rattle.app_engine.specs.LineAnswers.{joined_for}
 abbrev pub any_history_of : List Event → AnyHistory
 any_history_of events = histories.Memory (history_of events)
 
--- a report on it: each line is true, and unknown only where values are not distinct
-pub record IsReportOn (events : List Event) (report : Findings) : Type 0 where
-  pub true_of : EachIsTrueAt Any (any_history_of events) report
-  pub unknown : EachIsKnownOnDistinctValues (any_history_of events) report
-  pub unexplained : EachNamesUnexplained (any_history_of events) report
+-- a report on it, as a history of any length
+abbrev pub IsReportOn : List Event → Findings → Type 0
+IsReportOn events report = IsReportOf Any (any_history_of events) report
 
 -- the line on the first events: how many they are, and the lines of a report, joined
 abbrev pub cut_line : ℕ → Findings → List ℕ

@@ -14,7 +14,10 @@ use crate::noting::notes_text;
 use crate::reading::{WholeLog, read_log};
 use crate::writing::{history_text, names_text};
 use app_command_line::{LogJudging, LogOrder};
-use app_engine::{Answered, Findings, WorkerThreads, outcome_of, report_text, write_output};
+use app_engine::{
+    Answered, Findings, PieceWork, SessionWork, WorkerThreads, Workers, outcome_of, report_text,
+    write_output,
+};
 use json_lines::Source;
 use log_reader::EventReader;
 use std::alloc::Global;
@@ -40,7 +43,8 @@ pub(crate) fn answer_log<P: Threads + Wait + Sync + AllocGlobal, R: Source, W: W
 {
     let whole = read_log(rt.alloc(), source, shows_notes(order), told)?;
     let torn = whole.torn;
-    let answer = answer_to(rt, rt.alloc(), whole, order)?;
+    let work = WorkerThreads::of(rt, workers_of(order));
+    let answer = answer_to(&work, rt.alloc(), whole, order)?;
     write_output(writer, answer.text.as_bytes())?;
     Ok(Followed {
         outcome: answer.outcome,
@@ -49,29 +53,46 @@ pub(crate) fn answer_log<P: Threads + Wait + Sync + AllocGlobal, R: Source, W: W
     })
 }
 
-// Whether the answer to a log shows notes.
-fn shows_notes(order: &LogOrder) -> bool {
+// How many workers an order asks for.
+fn workers_of(order: &LogOrder) -> Workers {
+    match order {
+        LogOrder::Judge(judging) => judging.workers,
+        LogOrder::Explain(_)
+        | LogOrder::ListFaults(_, _)
+        | LogOrder::WriteHistory
+        | LogOrder::WriteNames
+        | LogOrder::WriteNotes => Workers::usual(),
+    }
+}
+
+/// Whether the answer to a log shows notes.
+pub(crate) fn shows_notes(order: &LogOrder) -> bool {
     match order {
         LogOrder::Explain(_) | LogOrder::ListFaults(_, _) | LogOrder::WriteNotes => true,
         LogOrder::Judge(_) | LogOrder::WriteHistory | LogOrder::WriteNames => false,
     }
 }
 
-// The answer to a log. What it is not made of is let go of, or is not made.
-fn answer_to<T: Threads + Wait + Sync>(
-    rt: &T,
+/// The answer to a log. What it is not made of is let go of, or is not made. `work` checks the pieces of certificates, or goes over the
+/// sessions.
+///
+/// Fails for want of memory alone.
+pub(crate) fn answer_to<W: PieceWork + SessionWork>(
+    work: &W,
     alloc: Global,
     whole: WholeLog,
     order: &LogOrder,
 ) -> Result<Answered, LogError>
+    requires can_check { W.can_check work.now }
+    requires can_work { W.can_work work.now }
     ensures answer { IfOk result (λ answer. IsLogAnswer order.now whole.reader.log (string_bytes answer.text) answer.outcome) }
     ensures error { IfErr result (λ e. e ≡ LogError.Memory) }
 {
     match order {
-        LogOrder::Judge(judging) => judged_log(rt, alloc, whole.reader, *judging),
+        LogOrder::Judge(judging) => judged_log(work, alloc, whole.reader, *judging),
         LogOrder::Explain(_) | LogOrder::ListFaults(_, _) => {
             let run = LoggedRun::of(alloc, whole)?;
-            let answer = run.answer(rt, alloc, order);
+            let answer = run.answer(work, alloc, order);
             drop(run);
             answer
         }
@@ -100,18 +121,18 @@ fn written_history(alloc: Global, reader: EventReader) -> Result<Answered, LogEr
 }
 
 // The report on a log. The names are dropped before the history is made.
-fn judged_log<T: Threads + Wait + Sync>(
-    rt: &T,
+fn judged_log<W: SessionWork>(
+    work: &W,
     alloc: Global,
     reader: EventReader,
     judging: LogJudging,
 ) -> Result<Answered, LogError>
+    requires { W.can_work work.now }
     ensures answer { IfOk result (λ answer.
         IsLogAnswer (LogOrder.Judge judging) reader.log (string_bytes answer.text) answer.outcome) }
     ensures error { IfErr result (λ e. e ≡ LogError.Memory) }
 {
-    let work = WorkerThreads::of(rt, judging.workers);
-    let report = report_on_last_log(&work, alloc, reader.into_log())?;
+    let report = report_on_last_log(work, alloc, reader.into_log())?;
     answer_of_report(alloc, report, judging)
 }
 

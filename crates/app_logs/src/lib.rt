@@ -5,6 +5,7 @@
 //! log_reader define which history a log has.
 #![tactic(auto)]
 
+mod alone;
 mod answering;
 mod failure;
 mod following;
@@ -17,10 +18,12 @@ mod noting;
 mod reading;
 mod tables;
 mod telling;
+mod text_lists;
 mod turn;
 mod watching;
 mod writing;
 
+pub use alone::{answer_log_alone, judging_once, run_in_memory};
 pub use failure::{LogError, error_lines, status_of_error};
 pub use following::{Followed, Rest, follow_log};
 pub use judging::report_on_log;

@@ -1,6 +1,13 @@
 //! The lines of a log on which the calls of its operations begin and end.
 
+ghost use Rattle.std.specs.Prelude.{◌≡◌, ◌++◌, ℕ, List, IfOk, OnOk, codes, string_bytes};
+ghost use Rattle.app_logs.specs.LogTexts.{IsBegunOn, IsCallLine};
+ghost use Rattle.log_reader.specs.EventLines.{line_at as line_in};
+ghost use Rattle.app_logs.specs.TextLists.{IsListText};
+ghost use Rattle.app_logs.specs.Steps.ListsSoFar.{AddsList};
+
 use crate::tables::line_at;
+use crate::text_lists::{push_comma, push_element};
 use log_events::LoggedCall;
 use log_reader::EventReader;
 use order_causal::Rows;
@@ -11,7 +18,10 @@ pub(crate) fn lines_text(
     alloc: Global,
     reader: &EventReader,
     sessions: &Rows<LoggedCall>,
-) -> Result<String, AllocError> {
+) -> Result<String, AllocError>
+    ensures { IfOk result (λ text. (lists : List ℕ) × IsListText (IsListText (IsCallLine reader.now.log)) sessions.now lists
+        × (string_bytes text ≡ lists ++ codes "\n")) }
+{
     let mut text = String::from_str(alloc, "[")?;
     for session in 0..sessions.len() {
         push_comma(&mut text, session)?;
@@ -21,43 +31,33 @@ pub(crate) fn lines_text(
     Ok(text)
 }
 
-// Appends the comma before each part of a list but the first.
-fn push_comma(text: &mut String, place: usize) -> Result<(), AllocError> {
-    if place > 0 {
-        text.push_str(",")
-    } else {
-        Ok(())
-    }
-}
-
 // Appends the list of the lines of calls to a text.
 fn push_session(
     alloc: Global,
     text: &mut String,
     reader: &EventReader,
     calls: &[LoggedCall],
-) -> Result<(), AllocError> {
+) -> Result<(), AllocError>
+    ensures { OnOk result (AddsList (IsCallLine reader.now.log) calls.now (string_bytes text.old) (string_bytes text.new)) }
+{
     text.push_str("[")?;
     for place in 0..calls.len() {
-        push_comma(text, place)?;
-        push_call(alloc, text, reader, calls[place].place())?;
+        let line = call_line(alloc, reader, calls[place].place())?;
+        push_element(text, place, line.as_str())?;
     }
     text.push_str("]")
 }
 
-// Appends the line on which a call begins, and that of its end where that has a note.
-fn push_call(
-    alloc: Global,
-    text: &mut String,
-    reader: &EventReader,
-    place: u32,
-) -> Result<(), AllocError> {
+// The line on which the call at a place begins, and that of its end where that has a note.
+fn call_line(alloc: Global, reader: &EventReader, place: u32) -> Result<String, AllocError>
+    ensures { IfOk result (λ text. IsBegunOn (line_in reader.now.log place) (string_bytes text)) }
+{
     let begin = line_at(reader, place);
     match reader.note(alloc, place, true)? {
         Some(note) => {
             let end = note.line;
-            text.push_str(&format!(in alloc; "[{begin},{end}]")?)
+            format!(in alloc; "[{begin},{end}]")
         }
-        None => text.push_str(&format!(in alloc; "{begin}")?),
+        None => format!(in alloc; "{begin}"),
     }
 }

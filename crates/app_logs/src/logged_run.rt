@@ -2,10 +2,12 @@
 
 ghost use Rattle.std.specs.Prelude.{◌≡◌, IfErr, IfOk, IfSome, OnOk, string_bytes};
 ghost use Rattle.std.specs.Io.KnownBytes.{IsAtEnd};
+ghost use Rattle.log_events.specs.Histories.{history_of};
 ghost use Rattle.log_reader.specs.Logs.{IsLogOf};
 ghost use Rattle.app_explanations.specs.ExplanationTexts.{IsExplainedAs};
 ghost use Rattle.app_explanations.specs.ListTexts.{IsListOf};
 ghost use Rattle.app_logs.specs.LogAnswers.{IsLogAnswer, IsLogError};
+ghost use Rattle.app_logs.specs.LogTexts.{AreCallLines, AreNames};
 ghost use Rattle.app_logs.specs.Reports.{IsReportOn, any_history_of};
 
 use crate::answering::answer_of_report;
@@ -16,7 +18,7 @@ use crate::reading::{WholeLog, read_log};
 use crate::writing::{history_text, names_text};
 use app_command_line::{LogJudging, LogOrder};
 use app_engine::{
-    Answered, Findings, RunError, SessionWork, WorkerThreads, explained_as, list_in_long,
+    Answered, Findings, PieceWork, RunError, SessionWork, explained_as, list_in_long,
     report_on_long,
 };
 use json_lines::Source;
@@ -27,8 +29,6 @@ use order_causal::Rows;
 use show_log_names::LogNames;
 use std::alloc::{AllocError, Global};
 use std::marker::Model;
-use std::sync::Wait;
-use std::thread::Threads;
 
 /// The run that a log records: the log, which was read to its end, its history, and what it says of the operations of that history.
 ///
@@ -45,15 +45,14 @@ pub struct LoggedRun {
 }
 
 impl Model for LoggedRun {
-    ghost use Rattle.std.specs.Prelude.{◌≡◌};
-    ghost use Rattle.log_events.specs.Histories.{history_of};
     ghost use Rattle.app_logs.specs.ReadLogs.{ReadLog};
+    ghost use Rattle.app_logs.specs.Steps.Runs.{KeepsRun};
 
     ghost Value = { ReadLog };
 
     ghost view = { λ run. record { log = run.reader.log; torn = run.torn } };
 
-    ghost invariant = { λ run. run.history ≡ history_of run.reader.log.events };
+    ghost invariant = { λ run. KeepsRun run.reader.log.events run.history run.calls };
 }
 
 impl LoggedRun {
@@ -101,47 +100,51 @@ impl LoggedRun {
         self.torn
     }
 
-    /// The answer to an order on the log. It is given once: `every` of an order to judge is passed over.
+    /// The answer to an order on the log. `work` checks the pieces of certificates, or goes over the sessions, in the place of the order's
+    /// workers. The answer is given once: `every` of an order to judge is passed over.
     ///
     /// Fails for want of memory alone. O(n (k + log n)) for a history of n operations in k sessions.
-    pub fn answer<T: Threads + Wait + Sync>(
+    pub fn answer<W: PieceWork + SessionWork>(
         &self,
-        rt: &T,
+        work: &W,
         alloc: Global,
         order: &LogOrder,
     ) -> Result<Answered, LogError>
+        requires can_check { W.can_check work.now }
+        requires can_work { W.can_work work.now }
         ensures answer { IfOk result (λ answer. IsLogAnswer order.now self.now.log (string_bytes answer.text) answer.outcome) }
         ensures error { IfErr result (λ e. e ≡ LogError.Memory) }
     {
+        let history = self.history();
         match order {
-            LogOrder::Judge(judging) => self.judged(rt, alloc, *judging),
+            LogOrder::Judge(judging) => self.judged(work, alloc, *judging),
             LogOrder::Explain(form) => {
                 let names = LogNames { tables: self };
-                Ok(Answered::met(explained_as(rt, alloc, &self.history, &names, *form)?))
+                Ok(Answered::met(explained_as(work, alloc, history, &names, *form)?))
             }
             LogOrder::ListFaults(most, form) => {
                 let names = LogNames { tables: self };
-                Ok(Answered::met(list_in_long(rt, alloc, &self.history, &names, *most, *form)?))
+                Ok(Answered::met(list_in_long(work, alloc, history, &names, *most, *form)?))
             }
-            LogOrder::WriteHistory => Ok(Answered::met(history_text(alloc, &self.history)?)),
-            LogOrder::WriteNames => Ok(Answered::met(names_text(alloc, &self.reader)?)),
+            LogOrder::WriteHistory => Ok(Answered::met(history_text(alloc, history)?)),
+            LogOrder::WriteNames => Ok(Answered::met(self.names(alloc)?)),
             LogOrder::WriteNotes => Ok(Answered::met(notes_text(alloc, &self.reader)?)),
         }
     }
 
     // The answer to an order to judge.
-    fn judged<T: Threads + Wait + Sync>(
+    fn judged<W: SessionWork>(
         &self,
-        rt: &T,
+        work: &W,
         alloc: Global,
         judging: LogJudging,
     ) -> Result<Answered, LogError>
+        requires { W.can_work work.now }
         ensures answer { IfOk result (λ answer.
             IsLogAnswer (LogOrder.Judge judging) self.now.log (string_bytes answer.text) answer.outcome) }
         ensures error { IfErr result (λ e. e ≡ LogError.Memory) }
     {
-        let work = WorkerThreads::of(rt, judging.workers);
-        let report = self.report(&work, alloc)?;
+        let report = self.report(work, alloc)?;
         answer_of_report(alloc, report, judging)
     }
 
@@ -151,16 +154,32 @@ impl LoggedRun {
         ensures report { IfOk result (IsReportOn self.now.log.events) }
         ensures error { IfErr result (λ e. e ≡ RunError.Memory) }
     {
-        let report = report_on_long(work, alloc, &self.history)?;
+        let report = report_on_long(work, alloc, self.history())?;
         Ok(report)
+    }
+
+    // The history that the log stands for.
+    fn history(&self) -> &LongHistory
+        ensures { result.now ≡ history_of self.now.log.events }
+    {
+        &self.history
+    }
+
+    // The names of the log.
+    fn names(&self, alloc: Global) -> Result<String, AllocError>
+        ensures { IfOk result (λ text. AreNames self.now.log (string_bytes text)) }
+    {
+        names_text(alloc, &self.reader)
     }
 
     /// The lines of its calls as JSON and a line feed: for each session of the history a list with the line of each operation, from 1. That
     /// is the line on which its call begins. Where the line of its end has a note, the operation has a list of both lines.
     ///
     /// A lost write that was read is three operations with the same lines. Fails for want of memory alone. O(n) for n calls and bytes of
-    /// their notes. Tests, not proofs, cover which lines these are.
-    pub fn call_lines(&self, alloc: Global) -> Result<String, AllocError> {
+    /// their notes. Tests, not proofs, cover which calls have a second line, and which line that is.
+    pub fn call_lines(&self, alloc: Global) -> Result<String, AllocError>
+        ensures { IfOk result (λ text. AreCallLines self.now.log (string_bytes text)) }
+    {
         lines_text(alloc, &self.reader, &self.calls)
     }
 }

@@ -1,5 +1,9 @@
 //! What a log that was read says about the operations of its history, and about its names.
 
+ghost use Rattle.std.specs.Prelude.{◌≡◌, IfOk, string_bytes};
+ghost use Rattle.log_reader.specs.EventLines.{line_at as line_in};
+ghost use Rattle.show_log_names.specs.TableNames.{IsNameAt};
+
 use crate::logged_run::LoggedRun;
 use json_histories::OpId;
 use log_reader::{EventReader, Names, Note};
@@ -7,7 +11,10 @@ use show_log_names::{CallNote, LogTables, StoodFor};
 use std::alloc::{AllocError, Global};
 
 /// The line of the event at a place of a log, or 0 where there is none.
-pub(crate) fn line_at(reader: &EventReader, place: u32) -> u32 {
+pub(crate) fn line_at(reader: &EventReader, place: u32) -> u32
+    ensures { result ≡ line_in reader.now.log place }
+{
+    reader.events_have_lines();
     if place < reader.log().events() {
         reader.line_of(place as usize)
     } else {
@@ -16,7 +23,9 @@ pub(crate) fn line_at(reader: &EventReader, place: u32) -> u32 {
 }
 
 /// The name of this number, or the number itself where there is none.
-pub(crate) fn name_in(alloc: Global, names: &Names, number: u32) -> Result<String, AllocError> {
+pub(crate) fn name_in(alloc: Global, names: &Names, number: u32) -> Result<String, AllocError>
+    ensures { IfOk result (λ text. IsNameAt names.now number (string_bytes text)) }
+{
     if (number as usize) < names.len() {
         names.text(alloc, number)
     } else {
@@ -25,6 +34,8 @@ pub(crate) fn name_in(alloc: Global, names: &Names, number: u32) -> Result<Strin
 }
 
 impl LogTables for LoggedRun {
+    ghost log = { λ run. run.log };
+
     fn stood_for(&self, op: OpId) -> Option<StoodFor> {
         let session = op.session_place();
         if session >= self.calls.len() {

@@ -1,9 +1,13 @@
 //! Writing what a log has: its history, or its names.
 
-ghost use Rattle.std.specs.Prelude.{◌≡◌, ◌++◌, IfErr, IfOk, codes, string_bytes};
+ghost use Rattle.std.specs.Prelude.{◌≡◌, ◌++◌, ◌<◌, [], IfErr, IfOk, OnOk, codes, get_or, length, string_bytes};
 ghost use Rattle.serde_json.specs.Written.{compact_text};
 ghost use Rattle.json_histories.specs.AnyForm.{form_of};
+ghost use Rattle.log_reader.specs.NameTexts.{IsNameText};
+ghost use Rattle.app_logs.specs.LogTexts.{AreNames};
+ghost use Rattle.app_logs.specs.Steps.ListsSoFar.{AddsList};
 
+use crate::text_lists::push_element;
 use json_histories::AnyHistory;
 use judge_memory::LongHistory;
 use judge_writer::write_long;
@@ -24,7 +28,9 @@ pub(crate) fn history_text(alloc: Global, history: &LongHistory) -> Result<Strin
 /// The names of a log as JSON: the list of the clients, that of the keys and that of the values, each in the order of its numbers.
 ///
 /// Fails for want of memory alone. O(n) for n bytes of names.
-pub(crate) fn names_text(alloc: Global, reader: &EventReader) -> Result<String, AllocError> {
+pub(crate) fn names_text(alloc: Global, reader: &EventReader) -> Result<String, AllocError>
+    ensures { IfOk result (λ text. AreNames reader.now.log (string_bytes text)) }
+{
     let mut text = String::from_str(alloc, "[")?;
     push_names(alloc, &mut text, reader.clients())?;
     text.push_str(",")?;
@@ -36,17 +42,24 @@ pub(crate) fn names_text(alloc: Global, reader: &EventReader) -> Result<String, 
 }
 
 // Appends a list of names to a text.
-fn push_names(alloc: Global, text: &mut String, names: &Names) -> Result<(), AllocError> {
+fn push_names(alloc: Global, text: &mut String, names: &Names) -> Result<(), AllocError>
+    ensures { OnOk result (AddsList IsNameText names.now (string_bytes text.old) (string_bytes text.new)) }
+{
     text.push_str("[")?;
     'names: for place in 0..names.len() {
-        let Ok(number) = u32::try_from(place) else {
-            return Err(AllocError);
-        };
-        if number > 0 {
-            text.push_str(",")?;
-        }
-        let name = names.text(alloc, number)?;
-        text.push_str(&name)?;
+        let name = name_at(alloc, names, place)?;
+        push_element(text, place, name.as_str())?;
     }
     text.push_str("]")
+}
+
+// The name at a place of a table.
+fn name_at(alloc: Global, names: &Names, place: usize) -> Result<String, AllocError>
+    requires { place < length names.now }
+    ensures { IfOk result (λ text. IsNameText (get_or names.now place []) (string_bytes text)) }
+{
+    match u32::try_from(place) {
+        Ok(number) => names.text(alloc, number),
+        Err(_) => Err(AllocError),
+    }
 }

@@ -18,6 +18,7 @@ use Rattle.json_lines.specs.declared.outcome.Outcome.TheVariants.{Met}
 use Rattle.log_reader.specs.Logs.{IsLogOf, IsRefusedLog, Log as EventLog}
 use Rattle.app_logs.specs.declared.failure.LogError.TheVariants.{Refused, Memory, ReadFault, WriteFault}
 use Rattle.app_logs.specs.LogAnswers.{IsLogAnswer}
+use Rattle.app_logs.specs.LogTexts.{AreCallLines}
 use Rattle.show_page.specs.Pages.{page, said}
 use Rattle.app_pages.specs.declared.failure.PageError.{PageError}
 use Rattle.app_pages.specs.declared.failure.PageError.TheVariants.{TooLong, Log}
@@ -88,7 +89,7 @@ pub record IsSaidOfLog (log : EventLog) (report part : List ℕ) : Type 0 where
   pub is_picture : IsLogAnswer (logs.Explain long_forms.Picture) log picture Met
   pub is_said : part ≡ said words (counted - most) list picture
 
--- the text is the page of what is answered to a log, and of a text on its lines of which nothing is said
+-- the text is the page of what is answered to a log, and of the lines of its calls
 pub record IsPageOf (most : ℕ) (log : EventLog) (text : List ℕ) : Type 0 where
   pub history : List ℕ
   pub report : List ℕ
@@ -99,6 +100,7 @@ pub record IsPageOf (most : ℕ) (log : EventLog) (text : List ℕ) : Type 0 whe
   pub is_history : IsLogAnswer logs.WriteHistory log history Met
   pub is_report : IsLogAnswer (logs.ListFaults most list_forms.Json) log report Met
   pub are_names : IsLogAnswer logs.WriteNames log names Met
+  pub are_lines : AreCallLines log lines
   pub are_notes : IsLogAnswer logs.WriteNotes log notes Met
   pub is_said : IsSaidOfLog log report part
   pub is_page : text ≡ page history report names lines notes part

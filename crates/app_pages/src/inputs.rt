@@ -9,11 +9,14 @@ ghost use Rattle.app_pages.specs.Writing.{IsPageOfInput, IsSaidOfInput, WritesPa
 ghost use Rattle.app_pages.specs.Writing.{list_order, listing_order, picture_order, words_order};
 
 use crate::counting::reads_counted;
-use app_command_line::{Form, Length, ListForm, Listing, LongForm, Order};
-use app_engine::{MAX_READ_CALLS, RunError, answer_to, read_input_for, write_output};
+use app_command_line::{Form, Length, ListForm, Listing, LongForm};
+use app_engine::{
+    MAX_READ_CALLS, PieceWork, RunError, SessionWork, WorkerThreads, Workers, explain_as,
+    explain_long, list_faults, read_input_for, write_output,
+};
 use json_lines::Source;
 use show_page::{MOST_SAID, PageTexts, page_of, said_of};
-use std::alloc::AllocError;
+use std::alloc::{AllocError, Global};
 use std::io::Write;
 use std::sync::Wait;
 use std::thread::Threads;
@@ -51,29 +54,35 @@ pub fn page_of_input<P: Threads + Wait + Sync + AllocGlobal, R: Source, W: Write
     ensures fault { result ≡ Err RunError.ReadFault → FindsNoEndFor R.called length MAX_READ_CALLS reader.old reader.new }
 {
     *input = read_input_for(rt.alloc(), reader, length)?;
-    let page = page_of_text(rt, input.as_slice(), most, length)?;
+    let work = WorkerThreads::of(rt, Workers::usual());
+    let page = page_of_text(&work, rt.alloc(), input.as_slice(), most, length)?;
     write_output(writer, page.as_slice())
 }
 
-// The page of an input in memory.
+/// The page of an input in memory, whose history may be of that length. `work` checks the pieces of certificates, or goes over the sessions.
+///
+/// Refuses what is no such history, and fails for want of memory.
 #[tactic(auto, using(crate::proofs::Joined::output_makes_page))]
-fn page_of_text<P: Threads + Wait + Sync + AllocGlobal>(
-    rt: &P,
+pub(crate) fn page_of_text<W: PieceWork + SessionWork>(
+    work: &W,
+    alloc: Global,
     input: &[u8],
     most: u32,
     length: Length,
 ) -> Result<Vec<u8>, RunError>
+    requires can_check { W.can_check work.now }
+    requires can_work { W.can_work work.now }
     ensures page { IfOk result (λ page. IsPageOfInput most length input.now page.items) }
     ensures output { OnOk result ((text : List ℕ) × IsOutput (listing_order most length) input.now text) }
     ensures error { IfErr result (IsOutputError (listing_order most length) input.now) }
 {
-    let order = Order::ListFaults(Listing {
+    let listing = Listing {
         most,
         length,
         form: ListForm::Json,
-    });
-    let report = answer_to(rt, rt.alloc(), input, &order)?;
-    let said = said_of_input(rt, input, report.as_bytes(), most, length)?;
+    };
+    let report = list_faults(work, alloc, input, listing)?;
+    let said = said_of_input(work, alloc, input, report.as_bytes(), most, length)?;
     let texts = PageTexts {
         history: input,
         report: report.as_bytes(),
@@ -81,28 +90,31 @@ fn page_of_text<P: Threads + Wait + Sync + AllocGlobal>(
         lines: b"null",
         notes: b"[]",
     };
-    let page = page_of(rt.alloc(), texts, said.as_slice())?;
+    let page = page_of(alloc, texts, said.as_slice())?;
     Ok(page)
 }
 
 // The part of the page of an input, with a list of its faults as JSON, that is seen where no script runs.
 #[tactic(auto, using(crate::proofs::Joined::outputs_make_said))]
-fn said_of_input<P: Threads + Wait + Sync + AllocGlobal>(
-    rt: &P,
+fn said_of_input<W: PieceWork + SessionWork>(
+    work: &W,
+    alloc: Global,
     input: &[u8],
     report: &[u8],
     most: u32,
     length: Length,
 ) -> Result<Vec<u8>, AllocError>
+    requires can_check { W.can_check work.now }
+    requires can_work { W.can_work work.now }
     ensures { IfOk result (λ said. IsSaidOfInput length input.now report.now said.items) }
 {
     let most = most.min(MOST_SAID);
-    let counted = reads_counted(rt.alloc(), report)?;
-    let words = text_for(rt, input, &order_of_words(length))?;
-    let list = text_for(rt, input, &order_of_list(most, length))?;
-    let picture = text_for(rt, input, &order_of_picture(length))?;
+    let counted = reads_counted(alloc, report)?;
+    let words = words_for(work, alloc, input, length)?;
+    let list = list_for(work, alloc, input, most, length)?;
+    let picture = picture_for(work, alloc, input, length)?;
     said_of(
-        rt.alloc(),
+        alloc,
         words.as_bytes(),
         counted.saturating_sub(u64::from(most)),
         list.as_bytes(),
@@ -110,47 +122,62 @@ fn said_of_input<P: Threads + Wait + Sync + AllocGlobal>(
     )
 }
 
-// The order whose answer a page of an input shows as words.
-fn order_of_words(length: Length) -> Order
-    ensures { result ≡ words_order length }
+// What a page of an input shows as words. The input was answered before, so that only memory can be short; so of the two below.
+fn words_for<W: PieceWork + SessionWork>(
+    work: &W,
+    alloc: Global,
+    input: &[u8],
+    length: Length,
+) -> Result<String, AllocError>
+    requires can_check { W.can_check work.now }
+    requires can_work { W.can_work work.now }
+    ensures { IfOk result (λ text. IsOutput (words_order length) input.now (string_bytes text)) }
 {
     match length {
-        Length::Limited => Order::Explain(Form::Words),
-        Length::Any => Order::ExplainLong(LongForm::Words),
+        Length::Limited => { explain_as(work, alloc, input, Form::Words).map_err(|_| AllocError) },
+        Length::Any => {
+            explain_long(work, alloc, input, LongForm::Words).map_err(|_| AllocError)
+        },
     }
 }
 
-// The order whose answer it shows as a list of at most so many reads.
-fn order_of_list(most: u32, length: Length) -> Order
-    ensures { result ≡ list_order most length }
+// What it shows as a list of at most so many reads.
+fn list_for<W: PieceWork + SessionWork>(
+    work: &W,
+    alloc: Global,
+    input: &[u8],
+    most: u32,
+    length: Length,
+) -> Result<String, AllocError>
+    requires can_check { W.can_check work.now }
+    requires can_work { W.can_work work.now }
+    ensures { IfOk result (λ text. IsOutput (list_order most length) input.now (string_bytes text)) }
 {
-    Order::ListFaults(Listing {
+    let listing = Listing {
         most,
         length,
         form: ListForm::Words,
-    })
+    };
+    list_faults(work, alloc, input, listing).map_err(|_| AllocError)
 }
 
-// The order whose answer it shows as a picture.
-fn order_of_picture(length: Length) -> Order
-    ensures { result ≡ picture_order length }
+// What it shows as a picture.
+fn picture_for<W: PieceWork + SessionWork>(
+    work: &W,
+    alloc: Global,
+    input: &[u8],
+    length: Length,
+) -> Result<String, AllocError>
+    requires can_check { W.can_check work.now }
+    requires can_work { W.can_work work.now }
+    ensures { IfOk result (λ text. IsOutput (picture_order length) input.now (string_bytes text)) }
 {
     match length {
-        Length::Limited => Order::Explain(Form::Picture),
-        Length::Any => Order::ExplainLong(LongForm::Picture),
-    }
-}
-
-// The answer to an input that was answered before, so that only memory can be short.
-fn text_for<P: Threads + Wait + Sync + AllocGlobal>(
-    rt: &P,
-    input: &[u8],
-    order: &Order,
-) -> Result<String, AllocError>
-    ensures { IfOk result (λ text. IsOutput order.now input.now (string_bytes text)) }
-{
-    match answer_to(rt, rt.alloc(), input, order) {
-        Ok(text) => Ok(text),
-        Err(_) => Err(AllocError),
+        Length::Limited => {
+            explain_as(work, alloc, input, Form::Picture).map_err(|_| AllocError)
+        },
+        Length::Any => {
+            explain_long(work, alloc, input, LongForm::Picture).map_err(|_| AllocError)
+        },
     }
 }

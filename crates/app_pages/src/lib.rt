@@ -4,11 +4,13 @@
 //! crate show_page says what a page is made of.
 #![tactic(auto)]
 
+mod alone;
 mod counting;
 mod failure;
 mod inputs;
 mod logs;
 
+pub use alone::{input_page_alone, log_page_alone};
 pub use failure::PageError;
 pub use inputs::page_of_input;
-pub use logs::page_of_log;
+pub use logs::{LogPage, page_of_log};

@@ -2,18 +2,19 @@
 
 ghost use Rattle.std.specs.Prelude.{◌≡◌, ◌≢◌, Err, IfErr, IfOk, OnOk, string_bytes};
 ghost use Rattle.std.specs.Io.KnownBytes.{IsAtEnd};
-ghost use Rattle.json_lines.specs.ReadCalls.{CallsAtMost};
-ghost use Rattle.app_engine.specs.ReadCalls.{FindsNoEnd};
+ghost use Rattle.json_lines.specs.ReadCalls.{CallsAtMost, FindsNoEnd};
 ghost use Rattle.app_engine.specs.declared.input.TheConstants.{MAX_INPUT_BYTES};
-ghost use Rattle.log_reader.specs.Logs.{IsLogOf};
+ghost use Rattle.app_logs.specs.Alone.{IsMemoryError};
 ghost use Rattle.app_pages.specs.Writing.{FailsToWrite, IsPageOf, IsPageOfLog, IsSaidOfLog, WritesPage};
-ghost use Rattle.app_pages.specs.Steps.Answers.{IsAnswerError, IsAnswerTo, memory_error};
+ghost use Rattle.app_pages.specs.Steps.Answers.{IsAnswerTo};
 
 use crate::counting::reads_counted;
 use crate::failure::PageError;
 use app_command_line::{ListForm, LogOrder, LongForm};
-use app_engine::{MAX_READ_CALLS, read_input, write_output};
-use app_logs::{Followed, LogError, LoggedRun};
+use app_engine::{
+    MAX_READ_CALLS, PieceWork, SessionWork, WorkerThreads, Workers, read_input, write_output,
+};
+use app_logs::{Followed, LogError, LoggedRun, run_in_memory};
 use json_lines::{Outcome, Source};
 use show_page::{MOST_SAID, PageTexts, page_of, said_of};
 use std::alloc::Global;
@@ -28,7 +29,7 @@ use std::thread::Threads;
 /// last line that is not whole is passed over, and the result says so. What is told of a line that is refused is appended to `told`.
 /// Nothing is written before the page is made: after every error but a write fault the writer is as it was. The log is held in memory and
 /// read once: O(n (k + log n)) for a history of n operations in k sessions, and the cost of reading. It is tested, not proved, that the
-/// lines and the notes are those of the log.
+/// notes, and the second lines of calls whose ends have one, are those of the log.
 pub fn page_of_log<P: Threads + Wait + Sync + AllocGlobal, R: Source, W: Write>(
     rt: &P,
     reader: &mut R,
@@ -49,7 +50,8 @@ pub fn page_of_log<P: Threads + Wait + Sync + AllocGlobal, R: Source, W: Write>(
         → FindsNoEnd R.called MAX_READ_CALLS reader.old reader.new }
 {
     let log = read_input(rt.alloc(), reader)?;
-    let page = page_of_bytes(rt, log.as_slice(), most, told)?;
+    let work = WorkerThreads::of(rt, Workers::usual());
+    let page = page_of_bytes(&work, rt.alloc(), log.as_slice(), most, told)?;
     write_output(writer, page.bytes.as_slice())?;
     Ok(Followed {
         outcome: Outcome::Met,
@@ -58,27 +60,33 @@ pub fn page_of_log<P: Threads + Wait + Sync + AllocGlobal, R: Source, W: Write>(
     })
 }
 
-// A page of a log.
+/// A page of a log.
 #[derive(Drop)]
-struct LogPage {
-    bytes: Vec<u8>,
-    // Whether the log's last line is not whole, and was passed over.
-    torn: bool,
+pub struct LogPage {
+    /// The page.
+    pub bytes: Vec<u8>,
+    /// Whether the log's last line is not whole, and was passed over.
+    pub torn: bool,
 }
 
-// The page of a log in memory.
-fn page_of_bytes<P: Threads + Wait + Sync + AllocGlobal>(
-    rt: &P,
+/// The page of a log in memory. `work` checks the pieces of certificates, or goes over the sessions.
+///
+/// Fails with the first line that is refused, or for want of memory.
+pub(crate) fn page_of_bytes<W: PieceWork + SessionWork>(
+    work: &W,
+    alloc: Global,
     log: &[u8],
     most: u32,
     told: &mut String,
 ) -> Result<LogPage, LogError>
+    requires can_check { W.can_check work.now }
+    requires can_work { W.can_work work.now }
     ensures page { IfOk result (λ page. IsPageOfLog most page.torn log.now page.bytes.items) }
-    ensures error { IfErr result (IsAnswerError log.now) }
+    ensures error { IfErr result (IsMemoryError log.now) }
 {
-    let run = run_in(rt.alloc(), log, told)?;
+    let run = run_in_memory(alloc, log, told)?;
     let torn = run.torn();
-    let bytes = page_of_run(rt, &run, most);
+    let bytes = page_of_run(work, alloc, &run, most);
     drop(run);
     Ok(LogPage {
         bytes: bytes?,
@@ -86,44 +94,25 @@ fn page_of_bytes<P: Threads + Wait + Sync + AllocGlobal>(
     })
 }
 
-// The run of a log in memory.
-fn run_in(alloc: Global, log: &[u8], told: &mut String) -> Result<LoggedRun, LogError>
-    ensures run { IfOk result (λ run. IsLogOf log.now run.log run.torn) }
-    ensures error { IfErr result (IsAnswerError log.now) }
-{
-    let mut rest = log;
-    match LoggedRun::read(alloc, &mut rest, told) {
-        Ok(run) => Ok(run),
-        Err(error) => Err(in_memory(error)),
-    }
-}
-
-// Why a log in memory can't be read. Where bytes in memory can't be read, memory is short.
-fn in_memory(error: LogError) -> LogError
-    ensures { result ≡ memory_error error }
-{
-    match error {
-        LogError::Refused(refusal) => LogError::Refused(refusal),
-        LogError::Memory | LogError::ReadFault | LogError::WriteFault => LogError::Memory,
-    }
-}
-
 // The page of a run.
 #[tactic(auto, using(crate::proofs::Joined::answers_make_page))]
-fn page_of_run<P: Threads + Wait + Sync + AllocGlobal>(
-    rt: &P,
+fn page_of_run<W: PieceWork + SessionWork>(
+    work: &W,
+    alloc: Global,
     run: &LoggedRun,
     most: u32,
 ) -> Result<Vec<u8>, LogError>
+    requires can_check { W.can_check work.now }
+    requires can_work { W.can_work work.now }
     ensures page { IfOk result (λ bytes. IsPageOf most run.now.log bytes.items) }
     ensures error { IfErr result (λ e. e ≡ LogError.Memory) }
 {
-    let history = answer_of(rt, run, LogOrder::WriteHistory)?;
-    let report = answer_of(rt, run, LogOrder::ListFaults(most, ListForm::Json))?;
-    let names = answer_of(rt, run, LogOrder::WriteNames)?;
-    let notes = answer_of(rt, run, LogOrder::WriteNotes)?;
-    let lines = run.call_lines(rt.alloc())?;
-    let said = said_of_run(rt, run, report.as_bytes(), most)?;
+    let history = answer_of(work, alloc, run, LogOrder::WriteHistory)?;
+    let report = answer_of(work, alloc, run, LogOrder::ListFaults(most, ListForm::Json))?;
+    let names = answer_of(work, alloc, run, LogOrder::WriteNames)?;
+    let notes = answer_of(work, alloc, run, LogOrder::WriteNotes)?;
+    let lines = run.call_lines(alloc)?;
+    let said = said_of_run(work, alloc, run, report.as_bytes(), most)?;
     let texts = PageTexts {
         history: history.as_bytes(),
         report: report.as_bytes(),
@@ -131,28 +120,36 @@ fn page_of_run<P: Threads + Wait + Sync + AllocGlobal>(
         lines: lines.as_bytes(),
         notes: notes.as_bytes(),
     };
-    let bytes = page_of(rt.alloc(), texts, said.as_slice())?;
+    let bytes = page_of(alloc, texts, said.as_slice())?;
     Ok(bytes)
 }
 
 // The part of the page of a run, with a list of its faults as JSON, that is seen where no script runs.
 #[tactic(auto, using(crate::proofs::Joined::answers_make_said))]
-fn said_of_run<P: Threads + Wait + Sync + AllocGlobal>(
-    rt: &P,
+fn said_of_run<W: PieceWork + SessionWork>(
+    work: &W,
+    alloc: Global,
     run: &LoggedRun,
     report: &[u8],
     most: u32,
 ) -> Result<Vec<u8>, LogError>
+    requires can_check { W.can_check work.now }
+    requires can_work { W.can_work work.now }
     ensures said { IfOk result (λ bytes. IsSaidOfLog run.now.log report.now bytes.items) }
     ensures error { IfErr result (λ e. e ≡ LogError.Memory) }
 {
     let most = most.min(MOST_SAID);
-    let counted = reads_counted(rt.alloc(), report)?;
-    let words = answer_of(rt, run, LogOrder::Explain(LongForm::Words))?;
-    let list = answer_of(rt, run, LogOrder::ListFaults(most, ListForm::Words))?;
-    let picture = answer_of(rt, run, LogOrder::Explain(LongForm::Picture))?;
+    let counted = reads_counted(alloc, report)?;
+    let words = answer_of(work, alloc, run, LogOrder::Explain(LongForm::Words))?;
+    let list = answer_of(
+        work,
+        alloc,
+        run,
+        LogOrder::ListFaults(most, ListForm::Words),
+    )?;
+    let picture = answer_of(work, alloc, run, LogOrder::Explain(LongForm::Picture))?;
     let bytes = said_of(
-        rt.alloc(),
+        alloc,
         words.as_bytes(),
         counted.saturating_sub(u64::from(most)),
         list.as_bytes(),
@@ -162,14 +159,17 @@ fn said_of_run<P: Threads + Wait + Sync + AllocGlobal>(
 }
 
 // The text of the answer to an order that does not judge.
-fn answer_of<P: Threads + Wait + Sync + AllocGlobal>(
-    rt: &P,
+fn answer_of<W: PieceWork + SessionWork>(
+    work: &W,
+    alloc: Global,
     run: &LoggedRun,
     order: LogOrder,
 ) -> Result<String, LogError>
+    requires can_check { W.can_check work.now }
+    requires can_work { W.can_work work.now }
     ensures answer { IfOk result (λ text. IsAnswerTo order run.now.log (string_bytes text)) }
     ensures error { IfErr result (λ e. e ≡ LogError.Memory) }
 {
-    let answer = run.answer(rt, rt.alloc(), &order)?;
+    let answer = run.answer(work, alloc, &order)?;
     Ok(answer.text)
 }

@@ -1,20 +1,23 @@
 //! The judge as a library for programs in C, and in whatever calls C: bytes in, bytes out, and a status.
 //!
-//! `embed/causal_judge.h` declares the calls. No call starts a thread, keeps anything, or reads or writes anything but what it
-//! is given.
+//! `embed/causal_judge.h` declares the calls: those of this file on histories within the limits, those of [`long`] on memory histories of
+//! any length, and those of [`logs`] on logs. No call starts a thread, keeps anything, or reads or writes anything but what it is given.
 #![tactic(auto)]
 
+pub mod logs;
+pub mod long;
 mod telling;
 #[cfg(test)]
 mod tests;
 
-ghost use Rattle.app_command_line.specs.declared.form.Form.TheVariants.{Json};
+ghost use Rattle.app_command_line.specs.declared.form.Form.TheVariants.{Json, Picture, Words};
 ghost use Rattle.app_command_line.specs.declared.length.Length.TheVariants.{Limited};
 ghost use Rattle.app_engine.specs.Alone.{judging_alone};
-ghost use Rattle.causal_judge_library.specs.Calls.{Tells};
+ghost use Rattle.causal_judge_library.specs.Calls.{Tells, TellsPage};
 
-use crate::telling::tell;
-use app_engine::Order;
+use crate::telling::{tell, tell_page};
+use app_command_line::{Form, Length, Order, USUAL_LISTED};
+use app_pages::input_page_alone;
 use std::alloc::Global;
 
 /// The status of a call whose answer is in its buffer.
@@ -83,6 +86,65 @@ pub extern "C" fn causal_judge_explain(
         answer,
         needed,
     )
+}
+
+/// Says the same in words, as the program's `explain` does.
+///
+/// Its text, its buffer and its statuses are as those of [`causal_judge_judge`].
+#[unsafe(no_mangle)]
+#[tactic(auto, using(crate::proofs::Tellings::tells))]
+pub extern "C" fn causal_judge_explain_words(
+    alloc: Global,
+    input: &[u8],
+    answer: &mut [u8],
+    needed: &mut usize,
+) -> u8
+    ensures { Tells (Order.Explain Words) input.now answer.old answer.new needed.new result }
+{
+    tell(
+        alloc,
+        app_engine::explain_as_alone(alloc, input, Form::Words),
+        answer,
+        needed,
+    )
+}
+
+/// Says the same as a picture in SVG, as the program's `explain --svg` does.
+///
+/// Its text, its buffer and its statuses are as those of [`causal_judge_judge`].
+#[unsafe(no_mangle)]
+#[tactic(auto, using(crate::proofs::Tellings::tells))]
+pub extern "C" fn causal_judge_explain_picture(
+    alloc: Global,
+    input: &[u8],
+    answer: &mut [u8],
+    needed: &mut usize,
+) -> u8
+    ensures { Tells (Order.Explain Picture) input.now answer.old answer.new needed.new result }
+{
+    tell(
+        alloc,
+        app_engine::explain_as_alone(alloc, input, Form::Picture),
+        answer,
+        needed,
+    )
+}
+
+/// Says the same as a page for a browser, with the reads that show a fault, as the program's `explain --html` does.
+///
+/// Its text, its buffer and its statuses are as those of [`causal_judge_judge`].
+#[unsafe(no_mangle)]
+#[tactic(auto, using(crate::proofs::Tellings::tells_page))]
+pub extern "C" fn causal_judge_explain_page(
+    alloc: Global,
+    input: &[u8],
+    answer: &mut [u8],
+    needed: &mut usize,
+) -> u8
+    ensures { TellsPage Limited input.now answer.old answer.new needed.new result }
+{
+    let page = input_page_alone(alloc, input, USUAL_LISTED, Length::Limited);
+    tell_page(alloc, page, answer, needed)
 }
 
 /// Checks that the pattern in the input shows that the history in it does not meet a criterion, as the program's `refute` does.

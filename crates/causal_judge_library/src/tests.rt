@@ -1,5 +1,7 @@
 //! What the calls say of some inputs, and what their buffers have then.
 
+use crate::logs::{causal_judge_log_events, causal_judge_log_explain, causal_judge_log_judge};
+use crate::long::{causal_judge_long_explain, causal_judge_long_judge, causal_judge_long_refute};
 use crate::{causal_judge_check, causal_judge_explain, causal_judge_judge, causal_judge_refute};
 use std::alloc::{AllocError, Global};
 use std::test::Fail;
@@ -12,6 +14,12 @@ enum Call {
     Check,
     Explain,
     Refute,
+    LongJudge,
+    LongExplain,
+    LongRefute,
+    LogJudge,
+    LogExplain,
+    LogEvents,
 }
 
 impl Call {
@@ -21,6 +29,12 @@ impl Call {
             Call::Check => causal_judge_check(alloc, input, answer, needed),
             Call::Explain => causal_judge_explain(alloc, input, answer, needed),
             Call::Refute => causal_judge_refute(alloc, input, answer, needed),
+            Call::LongJudge => causal_judge_long_judge(alloc, input, answer, needed),
+            Call::LongExplain => causal_judge_long_explain(alloc, input, answer, needed),
+            Call::LongRefute => causal_judge_long_refute(alloc, input, answer, needed),
+            Call::LogJudge => causal_judge_log_judge(alloc, input, answer, needed),
+            Call::LogExplain => causal_judge_log_explain(alloc, input, answer, needed),
+            Call::LogEvents => causal_judge_log_events(alloc, input, answer, needed),
         }
     }
 }
@@ -37,6 +51,17 @@ const PAIR: &str =
 
 const CLAIM: &str = r#"[["memory",[[["r",0,7]]]],"ccv",["ThinAirRead",[0,0]]]"#;
 
+// Its last line is not whole.
+const LOG: &str = r#"["begin","a",["w","x",7]]
+["end","a","ok"]
+["begin","b",["r","x"]]
+["end","b",7]
+["begin","#;
+
+const LATE_START: &str = r#"["begin","a",["w","x",7]]
+["start","x",1]
+"#;
+
 const BAD_OPERATION: &str = r#"["memory",[[["x"]]]]"#;
 
 const ANSWERS: [Case; 4] = [
@@ -49,6 +74,53 @@ const ANSWERS: [Case; 4] = [
         "0 57 [[\"cc\",\"yes\",null],[\"cm\",\"yes\",null],[\"ccv\",\"yes\",null]]\n.",
     ),
     Case(Call::Refute, CLAIM, 20, "0 19 ccv no ThinAirRead\n."),
+];
+
+const LONG_ANSWERS: [Case; 3] = [
+    Case(
+        Call::LongJudge,
+        HISTORY,
+        24,
+        "0 22 cc yes\ncm yes\nccv yes\n..",
+    ),
+    Case(
+        Call::LongExplain,
+        HISTORY,
+        58,
+        "0 57 [[\"cc\",\"yes\",null],[\"cm\",\"yes\",null],[\"ccv\",\"yes\",null]]\n.",
+    ),
+    Case(Call::LongRefute, CLAIM, 20, "0 19 ccv no ThinAirRead\n."),
+];
+
+const LOG_ANSWERS: [Case; 3] = [
+    Case(Call::LogJudge, LOG, 24, "0 22 cc yes\ncm yes\nccv yes\n.."),
+    Case(
+        Call::LogExplain,
+        LOG,
+        58,
+        "0 57 [[\"cc\",\"yes\",null],[\"cm\",\"yes\",null],[\"ccv\",\"yes\",null]]\n.",
+    ),
+    Case(
+        Call::LogEvents,
+        LOG,
+        39,
+        "0 37 [\"memory\",[[[\"w\",0,1]],[[\"r\",0,1]]]]\n..",
+    ),
+];
+
+const LOG_REFUSALS: [Case; 2] = [
+    Case(
+        Call::LogJudge,
+        LATE_START,
+        100,
+        "1 81 refused 30 2\nline 2: a start after the first begin, or a second start of its key\n...................",
+    ),
+    Case(
+        Call::LogEvents,
+        LATE_START,
+        80,
+        "3 81 ................................................................................",
+    ),
 ];
 
 const REFUSALS: [Case; 4] = [
@@ -66,6 +138,21 @@ const SHORT: [Case; 2] = [
 #[test]
 fn answers_are_first_in_the_buffer(rt: HostRuntime) -> Result<(), Fail> {
     expect_cases(rt.alloc(), &ANSWERS)
+}
+
+#[test]
+fn answers_on_any_length_are_first_in_the_buffer(rt: HostRuntime) -> Result<(), Fail> {
+    expect_cases(rt.alloc(), &LONG_ANSWERS)
+}
+
+#[test]
+fn answers_to_logs_are_first_in_the_buffer(rt: HostRuntime) -> Result<(), Fail> {
+    expect_cases(rt.alloc(), &LOG_ANSWERS)
+}
+
+#[test]
+fn refused_lines_are_first_in_the_buffer(rt: HostRuntime) -> Result<(), Fail> {
+    expect_cases(rt.alloc(), &LOG_REFUSALS)
 }
 
 #[test]

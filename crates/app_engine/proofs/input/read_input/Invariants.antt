@@ -1,6 +1,6 @@
 use Rattle.std.proofs.Common.{◌≤◌, vec_len}
 use Rattle.std.specs.Io.KnownBytes.{Consumes}
-use Rattle.app_engine.specs.ReadCalls.{GoOn}
+use Rattle.json_lines.specs.ReadCalls.{GoOn}
 use Rattle.app_engine.specs.declared.input.TheConstants.{MAX_INPUT_BYTES}
 use Rattle.app_engine.proofs.input.read_input.Given as goal
 

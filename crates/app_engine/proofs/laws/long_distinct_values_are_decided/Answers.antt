@@ -9,12 +9,12 @@ pub returns-clause-met : goal.returns-clause-met
 returns-clause-met c = λ input text report h criterion same distinct.
     let answer = answer_for report.report criterion in
     decided-met h criterion distinct answer
-    (says-long_true h criterion answer (subst (λ (history : AnyHistory). IsLongTrueOf history criterion answer) same (report.true_of.each criterion)))
-    (subst (λ (history : AnyHistory). IsKnownOnDistinctValues history answer) same (report.unknown criterion))
+    (says-long_true h criterion answer (subst (λ (history : AnyHistory). IsLongTrueOf history criterion answer) same (report.answers.true_of.each criterion)))
+    (subst (λ (history : AnyHistory). IsKnownOnDistinctValues history answer) same (report.answers.unknown criterion))
 
 pub returns-clause-excluded : goal.returns-clause-excluded
 returns-clause-excluded c = λ input text report h criterion same distinct.
     let answer = answer_for report.report criterion in
     decided-excluded h criterion distinct answer
-    (says-long_true h criterion answer (subst (λ (history : AnyHistory). IsLongTrueOf history criterion answer) same (report.true_of.each criterion)))
-    (subst (λ (history : AnyHistory). IsKnownOnDistinctValues history answer) same (report.unknown criterion))
+    (says-long_true h criterion answer (subst (λ (history : AnyHistory). IsLongTrueOf history criterion answer) same (report.answers.true_of.each criterion)))
+    (subst (λ (history : AnyHistory). IsKnownOnDistinctValues history answer) same (report.answers.unknown criterion))

@@ -1,6 +1,5 @@
 use Rattle.std.specs.Prelude.{◌≡◌}
-use Rattle.std.proofs.Common.{subst, arith}
-use Rattle.std.proofs.lemmas.Grind.{common_steps}
+use Rattle.std.proofs.Common.{subst}
 use Rattle.order_memory.specs.Memory.{MemoryHistory}
 use Rattle.json_histories.specs.declared.any_history.AnyHistory.TheVariants as histories
 use Rattle.app_command_line.specs.declared.length.Length.TheVariants.{Any}
@@ -12,7 +11,7 @@ use Rattle.app_logs.proofs.logged_run.LoggedRun.report.Goals as goal
 -- src/logged_run.rt:149:5
 pub returns-clause-report : goal.returns-clause-report
 returns-clause-report g c =
-    let e : c.self.inside.history ≡ history_of c.args.self.now.log.events = grind (arith, common_steps) in
+    let e : c.history.result.now ≡ history_of c.args.self.now.log.events = c.history.ensures in
     record {
       true_of = subst (λ (h : MemoryHistory). EachIsTrueAt Any (histories.Memory h) c.in_ok-report.report) e c.in_ok-report.ensures.truth;
       unknown = subst (λ (h : MemoryHistory). EachIsKnownOnDistinctValues (histories.Memory h) c.in_ok-report.report) e c.in_ok-report.ensures.unknown;
