@@ -1,6 +1,6 @@
 //! Where answers are written.
 
-ghost use Rattle.std.specs.Prelude.{◌≤◌, IfOk, length};
+ghost use Rattle.std.specs.Prelude.{◌≡◌};
 
 use crate::painting::push_painted;
 use crate::place::Place;
@@ -9,6 +9,62 @@ use std::alloc::{AllocError, Global};
 use std::io;
 use std::io::Write;
 use std::sync::Wait;
+
+/// A writer of answers to another writer, which makes room for each where it is shown how far the work is.
+#[derive(Drop)]
+pub(crate) struct AnswerWriter<'a, P, W> {
+    rt: &'a P,
+    to: W,
+    /// How far the work is, where that is shown.
+    progress: Option<&'a Progress<'a>>,
+}
+
+impl<'a, P, W> AnswerWriter<'a, P, W> {
+    /// A writer to another one.
+    pub(crate) fn of(place: &Place<'a, P>, to: W) -> AnswerWriter<'a, P, W>
+        ensures { result.to ≡ to }
+    {
+        AnswerWriter {
+            rt: place.rt,
+            to,
+            progress: place.progress,
+        }
+    }
+
+    /// What it writes to.
+    pub(crate) fn into_inner(self) -> W
+        ensures { result ≡ self.entry.to }
+    {
+        self.to
+    }
+}
+
+impl<P: Eprint + Wait, W: Write> Write for AnswerWriter<'_, P, W> {
+    ghost contents = { λ writer. W.contents writer.to };
+
+    fn write(&mut self, buffer: &[u8]) -> io::Result<usize> {
+        if let Some(progress) = self.progress {
+            progress.before_answer(self.rt);
+        }
+        let outcome = self.to.write(buffer);
+        if let Some(progress) = self.progress {
+            progress.after_answer(self.rt, ends_line(buffer, &outcome));
+        }
+        outcome
+    }
+
+    fn flush(&mut self) -> io::Result<()> {
+        self.to.flush()
+    }
+}
+
+// Whether what was written of some bytes ends with a whole line.
+fn ends_line(bytes: &[u8], outcome: &io::Result<usize>) -> bool {
+    match outcome {
+        Ok(count) => bytes.iter().take(*count).next_back() == Some(&b'\n'),
+        Err(_) => true,
+    }
+}
 
 /// How the lines of an answer are written.
 #[derive(Clone, Copy)]
@@ -19,55 +75,34 @@ pub(crate) struct Dress<'a> {
     pub is_painted: bool,
 }
 
-/// A writer of answers: to standard output, or to memory.
+/// A writer of answers whose lines are dressed.
 #[derive(Drop)]
-pub(crate) struct AnswerWriter<'a, P> {
-    to: &'a P,
+pub(crate) struct DressedWriter<'a, P, W> {
+    inner: AnswerWriter<'a, P, W>,
     alloc: Global,
     dress: Dress<'a>,
-    /// How far the work is, where that is shown.
-    progress: Option<&'a Progress<'a>>,
-    /// What was written so far, where nothing goes to standard output.
-    kept: Option<Vec<u8>>,
     is_at_line_start: bool,
 }
 
-impl<'a, P: AllocGlobal> AnswerWriter<'a, P> {
-    /// A writer to standard output.
-    pub(crate) fn to_output(place: &Place<'a, P>, dress: Dress<'a>) -> AnswerWriter<'a, P> {
-        AnswerWriter {
-            to: place.rt,
+impl<'a, P: AllocGlobal, W> DressedWriter<'a, P, W> {
+    /// A writer to another one.
+    pub(crate) fn of(place: &Place<'a, P>, dress: Dress<'a>, to: W) -> DressedWriter<'a, P, W> {
+        DressedWriter {
+            inner: AnswerWriter::of(place, to),
             alloc: place.rt.alloc(),
             dress,
-            progress: place.progress,
-            kept: None,
-            is_at_line_start: true,
-        }
-    }
-
-    /// A writer to memory.
-    pub(crate) fn to_memory(to: &'a P) -> AnswerWriter<'a, P> {
-        AnswerWriter {
-            to,
-            alloc: to.alloc(),
-            dress: Dress {
-                label: None,
-                is_painted: false,
-            },
-            progress: None,
-            kept: Some(Vec::new(to.alloc())),
             is_at_line_start: true,
         }
     }
 }
 
-impl<P> AnswerWriter<'_, P> {
-    /// What was written, where nothing went to standard output.
-    pub(crate) fn into_kept(self) -> Option<Vec<u8>> {
-        self.kept
+impl<P, W> DressedWriter<'_, P, W> {
+    /// What it writes to.
+    pub(crate) fn into_inner(self) -> W {
+        self.inner.into_inner()
     }
 
-    // The text as it is written to standard output.
+    // The text as it is written.
     fn dressed(&mut self, text: &str) -> Result<String, AllocError> {
         let mut dressed = String::new(self.alloc);
         for line in text.split_inclusive('\n') {
@@ -88,55 +123,27 @@ impl<P> AnswerWriter<'_, P> {
     }
 }
 
-// Whether what was written of some bytes ends with a whole line.
-fn ends_line(bytes: &[u8], outcome: &io::Result<usize>) -> bool {
-    match outcome {
-        Ok(count) => bytes.iter().take(*count).next_back() == Some(&b'\n'),
-        Err(_) => true,
-    }
-}
-
-impl<P: Print> AnswerWriter<'_, P> {
-    // Writes some bytes to standard output, and returns how many.
-    fn write_out(&mut self, buffer: &[u8]) -> io::Result<usize>
-        ensures { IfOk result (λ count. count ≤ length buffer.now) }
-    {
-        if self.dress.label.is_none() && !self.dress.is_painted {
-            return self.to.write_some(buffer);
-        }
-        self.write_dressed(buffer)?;
-        Ok(buffer.len())
-    }
-
-    // Writes all of some bytes to standard output, with what comes before their lines.
+impl<P: Eprint + Wait, W: Write> DressedWriter<'_, P, W> {
+    // Writes all of some bytes, with what comes before their lines.
     fn write_dressed(&mut self, bytes: &[u8]) -> io::Result<()> {
         match std::str::from_utf8(bytes) {
             Ok(text) => {
                 let dressed = self.dressed(text)?;
-                self.to.write_all(dressed.as_bytes())
+                self.inner.write_all(dressed.as_bytes())
             }
-            Err(_) => self.to.write_all(bytes),
+            Err(_) => self.inner.write_all(bytes),
         }
     }
 }
 
-impl<P: Print + Eprint + Wait> Write for AnswerWriter<'_, P> {
+// What it holds is not told: its lines are not those that were written to it.
+impl<P: Eprint + Wait, W: Write> Write for DressedWriter<'_, P, W> {
     fn write(&mut self, buffer: &[u8]) -> io::Result<usize> {
-        if let Some(kept) = &mut self.kept {
-            kept.extend_from_slice(buffer)?;
-            return Ok(buffer.len());
-        }
-        if let Some(progress) = self.progress {
-            progress.before_answer(self.to);
-        }
-        let outcome = self.write_out(buffer);
-        if let Some(progress) = self.progress {
-            progress.after_answer(self.to, ends_line(buffer, &outcome));
-        }
-        outcome
+        self.write_dressed(buffer)?;
+        Ok(buffer.len())
     }
 
     fn flush(&mut self) -> io::Result<()> {
-        Ok(())
+        self.inner.flush()
     }
 }

@@ -1,26 +1,27 @@
 //! What is asked for on one input.
 
-ghost use Rattle.std.specs.Prelude.{◌≤◌};
+ghost use Rattle.std.specs.Prelude.{◌≡◌, ◌≢◌, ◌⊎◌, [], None, Some, false, true};
+ghost use Rattle.std.specs.Option.{option_copied};
+ghost use Rattle.app_process.specs.Dressing.{is_plain};
+ghost use Rattle.app_process.specs.Endings.{EndsInput, EndsTask};
+ghost use Rattle.app_process.specs.Process.{EndsAsked, GoesToFile, GoesToOutput, IsPainted};
 
-use crate::answer_writer::{AnswerWriter, Dress};
+use crate::answer_writer::{AnswerWriter, Dress, DressedWriter};
 use crate::counted::counted_at;
-use crate::counting::{counts_of_history, counts_of_log};
-use crate::keeping::Keeping;
 use crate::line_process::judge_lines_of_process;
-use crate::log_process::follow_log_of_process;
+use crate::log_process::status_of_log;
+use crate::order_process::status_of_order;
 use crate::page_process::write_page_of_process;
 use crate::place::Place;
-use crate::program::report_refused;
-use crate::refused::form_of;
+use crate::progress::Progress;
 use crate::saving::save;
+use crate::saying::Say;
 use crate::showing::{status_shown, view_of};
-use crate::summary::{status_by_counts, wants_counts};
 use crate::terminals::Terminals;
-use app_command_line::{Asked, Coloring, Detail, LogOrder, Manner, Order, Task, output_file};
-use app_engine::run_keeping;
+use app_command_line::{Asked, Coloring, Detail, Manner, Order, Task, output_file};
 use app_logs::Rest;
 use std::env;
-use std::io::Read;
+use std::io::{Read, Write};
 use std::rt::{Env, Files};
 use std::sync::Wait;
 use std::thread::Threads;
@@ -52,7 +53,12 @@ impl<'a, P> Given<'a, P> {
         words: &'a [String],
         label: Option<&'a str>,
         input: Option<&'a str>,
-    ) -> Given<'a, P> {
+    ) -> Given<'a, P>
+        ensures label { result.place.label ≡ label.entry }
+        ensures terminal { result.place.is_terminal ≡ terminals.error }
+        ensures terminals { result.terminals ≡ terminals }
+        ensures words { result.words ≡ words.entry }
+    {
         Given {
             place: Place {
                 rt,
@@ -67,8 +73,31 @@ impl<'a, P> Given<'a, P> {
         }
     }
 
+    /// The same, where it is shown how far the work is.
+    pub(crate) fn with_progress<'b>(&self, progress: &'b Progress<'b>) -> Given<'b, P>
+    where
+        'a: 'b,
+        ensures label { result.place.label ≡ self.now.place.label }
+        ensures terminal { result.place.is_terminal ≡ self.now.place.is_terminal }
+        ensures terminals { result.terminals ≡ self.now.terminals }
+        ensures words { result.words ≡ self.now.words }
+    {
+        Given {
+            place: self.place.with(progress),
+            terminals: self.terminals,
+            words: self.words,
+            input: self.input,
+            rest: self.rest,
+        }
+    }
+
     /// The same, where the rest of a log is read or not.
-    pub(crate) fn with_rest(&self, rest: Rest) -> Given<'a, P> {
+    pub(crate) fn with_rest(&self, rest: Rest) -> Given<'a, P>
+        ensures label { result.place.label ≡ self.now.place.label }
+        ensures terminal { result.place.is_terminal ≡ self.now.place.is_terminal }
+        ensures terminals { result.terminals ≡ self.now.terminals }
+        ensures words { result.words ≡ self.now.words }
+    {
         Given {
             place: Place {
                 rt: self.place.rt,
@@ -84,58 +113,149 @@ impl<'a, P> Given<'a, P> {
     }
 }
 
-/// Does what is asked for on an input that a reader has, and returns the exit status.
+/// Does what is asked for on an input that a reader has, and returns the writer, what was said, and the exit status.
 pub(crate) fn status_of_asked<
-    P: Env + Files + Threads + Wait + Sync + AllocGlobal + Print + Eprint + Clock,
+    P: Env + Files + Threads + Wait + Sync + AllocGlobal + Eprint + Clock,
     R: Read + Drop + Send,
->(given: &Given<'_, P>, reader: R, asked: &Asked) -> u8
-    ensures { result ≤ 6 }
+    W: Write + Drop + Send,
+    E: Say + Drop + Send,
+>(given: &Given<'_, P>, reader: R, writer: W, errors: E, asked: &Asked) -> (W, E, u8)
+    ensures { EndsAsked (option_copied given.now.place.label) given.now.place.is_terminal given.now.terminals.output asked.now
+        (R.remaining reader) (W.contents writer) (W.contents result.0) (E.said errors) (E.said result.1) result.2 }
 {
     match view_of(given, asked) {
-        Some(view) => status_shown(given, view, reader, asked),
-        None => status_by(given, reader, asked),
+        Some(view) => status_shown(given, view, reader, writer, errors, asked),
+        None => status_said(given, reader, writer, errors, asked),
     }
 }
 
 /// The same, where another thread may show how far the work is.
-pub(crate) fn status_by<
-    P: Env + Files + Threads + Wait + Sync + AllocGlobal + Print + Eprint + Clock,
+pub(crate) fn status_said<
+    P: Env + Files + Threads + Wait + Sync + AllocGlobal + Eprint + Clock,
     R: Read + Drop + Send,
->(given: &Given<'_, P>, reader: R, asked: &Asked) -> u8
-    ensures { result ≤ 6 }
+    W: Write + Drop + Send,
+    E: Say,
+>(given: &Given<'_, P>, reader: R, writer: W, errors: E, asked: &Asked) -> (W, E, u8)
+    ensures { EndsAsked (option_copied given.now.place.label) given.now.place.is_terminal given.now.terminals.output asked.now
+        (R.remaining reader) (W.contents writer) (W.contents result.0) (E.said errors) (E.said result.1) result.2 }
+{
+    let mut errors = errors;
+    let (writer, status) = status_by(given, reader, writer, &mut errors, asked);
+    (writer, errors, status)
+}
+
+// The same, with what is said as it is.
+#[tactic(auto, using(crate::proofs::AskedLaws::to_output, crate::proofs::AskedLaws::to_file))]
+fn status_by<
+    P: Env + Files + Threads + Wait + Sync + AllocGlobal + Eprint + Clock,
+    R: Read + Drop + Send,
+    W: Write + Drop + Send,
+    E: Say,
+>(given: &Given<'_, P>, reader: R, writer: W, errors: &mut E, asked: &Asked) -> (W, u8)
+    ensures { EndsAsked (option_copied given.now.place.label) given.now.place.is_terminal given.now.terminals.output asked.now
+        (R.remaining reader) (W.contents writer) (W.contents result.0) (E.said errors.old) (E.said errors.new) result.1 }
 {
     if asked.manner.to_file {
-        return status_with_file(given, reader, asked);
+        let status = status_with_file(given, reader, errors, asked);
+        return (writer, status);
     }
+    status_with_output(given, reader, writer, errors, asked)
+}
+
+// The same, where the answer goes to the output.
+#[tactic(auto, using(crate::proofs::AskedLaws::output_as_it_is, crate::proofs::AskedLaws::output_dressed))]
+fn status_with_output<
+    P: Env + Files + Threads + Wait + Sync + AllocGlobal + Eprint + Clock,
+    R: Read + Drop + Send,
+    W: Write + Drop + Send,
+    E: Say,
+>(given: &Given<'_, P>, reader: R, writer: W, errors: &mut E, asked: &Asked) -> (W, u8)
+    ensures { GoesToOutput (option_copied given.now.place.label) given.now.place.is_terminal given.now.terminals.output asked.now
+        (R.remaining reader) (W.contents writer) (W.contents result.0) (E.said errors.old) (E.said errors.new) result.1 }
+{
+    let is_painted = is_painted(given, asked.manner.coloring);
+    if is_plain(given.place.label, is_painted) {
+        answer_plainly(given, reader, writer, errors, asked)
+    } else {
+        answer_dressed(given, reader, writer, errors, asked, is_painted)
+    }
+}
+
+// Whether the lines of an answer are written as they are.
+fn is_plain(label: Option<&str>, is_painted: bool) -> bool
+    ensures { result ≡ is_plain (option_copied label.entry) is_painted }
+{
+    match label {
+        None => !is_painted,
+        Some(_) => false,
+    }
+}
+
+// Writes what is asked for as it is.
+fn answer_plainly<
+    P: Threads + Wait + Sync + AllocGlobal + Eprint + Clock,
+    R: Read + Drop + Send,
+    W: Write + Drop + Send,
+    E: Say,
+>(given: &Given<'_, P>, reader: R, writer: W, errors: &mut E, asked: &Asked) -> (W, u8)
+    ensures { EndsTask (option_copied given.now.place.label) given.now.place.is_terminal asked.now.task asked.now.manner
+        (R.remaining reader) (W.contents writer) (W.contents result.0) (E.said errors.old) (E.said errors.new) result.1 }
+{
+    let writer = AnswerWriter::of(&given.place, writer);
+    let (writer, status) = answer_by(given, reader, writer, errors, asked);
+    (writer.into_inner(), status)
+}
+
+// Writes what is asked for with its lines dressed.
+fn answer_dressed<
+    P: Threads + Wait + Sync + AllocGlobal + Eprint + Clock,
+    R: Read + Drop + Send,
+    W: Write + Drop + Send,
+    E: Say,
+>(
+    given: &Given<'_, P>,
+    reader: R,
+    writer: W,
+    errors: &mut E,
+    asked: &Asked,
+    is_painted: bool,
+) -> (W, u8)
+    ensures { EndsTask (option_copied given.now.place.label) given.now.place.is_terminal asked.now.task asked.now.manner
+        (R.remaining reader) None None (E.said errors.old) (E.said errors.new) result.1 }
+{
     let dress = Dress {
         label: given.place.label,
-        is_painted: is_painted(given, asked.manner.coloring),
+        is_painted,
     };
-    let writer = AnswerWriter::to_output(&given.place, dress);
-    let (_, status) = answer_by(given, reader, writer, asked);
-    status
+    let writer = DressedWriter::of(&given.place, dress, writer);
+    let (writer, status) = answer_by(given, reader, writer, errors, asked);
+    (writer.into_inner(), status)
 }
 
 // The same, where the answer goes to a file.
 fn status_with_file<
-    P: Env + Files + Threads + Wait + Sync + AllocGlobal + Print + Eprint + Clock,
+    P: Env + Files + Threads + Wait + Sync + AllocGlobal + Eprint + Clock,
     R: Read + Drop + Send,
->(given: &Given<'_, P>, reader: R, asked: &Asked) -> u8
-    ensures { result ≤ 6 }
+    E: Say,
+>(given: &Given<'_, P>, reader: R, errors: &mut E, asked: &Asked) -> u8
+    ensures { GoesToFile (option_copied given.now.place.label) given.now.place.is_terminal given.now.terminals.output asked.now
+        (R.remaining reader) None None (E.said errors.old) (E.said errors.new) result }
 {
-    let writer = AnswerWriter::to_memory(given.place.rt);
-    let (writer, status) = answer_by(given, reader, writer, asked);
+    let answer = Vec::new(given.place.rt.alloc());
+    let (answer, status) = answer_by(given, reader, answer, errors, asked);
     if status != 0 {
         return status;
     }
-    match (output_file(given.words), writer.into_kept()) {
-        (Some(name), Some(answer)) if save(&given.place, name, answer.as_slice()) => 0,
+    match output_file(given.words) {
+        Some(name) if save(&given.place, errors, name, answer.as_slice()) => 0,
         _ => UNWRITTEN_STATUS,
     }
 }
 
 // Whether the words of answers are coloured.
-fn is_painted<P: Env + AllocGlobal>(given: &Given<'_, P>, coloring: Coloring) -> bool {
+fn is_painted<P: Env + AllocGlobal>(given: &Given<'_, P>, coloring: Coloring) -> bool
+    ensures { IsPainted coloring given.now.terminals.output result }
+{
     match coloring {
         Coloring::Always => true,
         Coloring::Never => false,
@@ -145,84 +265,57 @@ fn is_painted<P: Env + AllocGlobal>(given: &Given<'_, P>, coloring: Coloring) ->
 
 // Writes what is asked for, and returns the writer and the exit status.
 fn answer_by<
-    'a,
-    P: Threads + Wait + Sync + AllocGlobal + Print + Eprint + Clock,
+    P: Threads + Wait + Sync + AllocGlobal + Eprint + Clock,
     R: Read + Drop + Send,
->(
-    given: &Given<'_, P>,
-    reader: R,
-    writer: AnswerWriter<'a, P>,
-    asked: &Asked,
-) -> (AnswerWriter<'a, P>, u8)
-    ensures { result.1 ≤ 6 }
+    W: Write + Drop + Send,
+    E: Say,
+>(given: &Given<'_, P>, reader: R, writer: W, errors: &mut E, asked: &Asked) -> (W, u8)
+    ensures { EndsTask (option_copied given.now.place.label) given.now.place.is_terminal asked.now.task asked.now.manner
+        (R.remaining reader) (W.contents writer) (W.contents result.0) (E.said errors.old) (E.said errors.new) result.1 }
 {
     let mut writer = writer;
-    let reader = counted_at(&given.place, reader);
-    let status = match asked.task {
-        Task::OfInput(Order::JudgeLines(judging), _) => {
-            return judge_lines_of_process(&given.place, reader, writer, judging);
-        }
+    let place = &given.place;
+    let manner = &asked.manner;
+    let reader = counted_at(place, reader);
+    match asked.task {
         Task::OfInput(order, detail) => {
-            let manner = &asked.manner;
-            status_of_order(&given.place, reader, &mut writer, &order, detail, manner)
+            answer_input(place, reader, writer, errors, &order, detail, manner)
         }
-        Task::OfLog(order) => { status_of_log(given, reader, &mut writer, order, &asked.manner) }
+        Task::OfLog(order) => {
+            let rest = given.rest;
+            let status = status_of_log(place, reader, &mut writer, errors, order, manner, rest);
+            (writer, status)
+        }
         Task::OfPage(page, detail) => {
-            write_page_of_process(&given.place, reader, &mut writer, page, detail)
+            let status = write_page_of_process(place, reader, &mut writer, errors, page, detail);
+            (writer, status)
         }
-    };
-    (writer, status)
+    }
 }
 
-// Does what is ordered of an input.
-fn status_of_order<P: Threads + Wait + Sync + AllocGlobal + Print + Eprint, R: Read + Drop>(
+// Does what is ordered of an input, read whole or line by line.
+#[tactic(auto, using(crate::proofs::AskedLaws::by_lines, crate::proofs::AskedLaws::as_whole))]
+fn answer_input<
+    P: Threads + Wait + Sync + AllocGlobal + Eprint,
+    R: Read + Drop + Send,
+    W: Write + Drop + Send,
+    E: Say,
+>(
     place: &Place<'_, P>,
     reader: R,
-    writer: &mut AnswerWriter<'_, P>,
+    writer: W,
+    errors: &mut E,
     order: &Order,
     detail: Detail,
     manner: &Manner,
-) -> u8
-    ensures { result ≤ 6 }
+) -> (W, u8)
+    ensures { EndsInput (option_copied place.now.label) place.now.is_terminal order.now detail manner.now
+        (R.remaining reader) (W.contents writer) (W.contents result.0) (E.said errors.old) (E.said errors.new) result.1 }
 {
-    let mut reader = reader;
-    let mut input = Vec::new(place.rt.alloc());
-    match run_keeping(place.rt, &mut reader, writer, order, &mut input) {
-        Ok(outcome) if wants_counts(manner) => {
-            let counts = counts_of_history(place.rt.alloc(), &input);
-            status_by_counts(place, manner, counts, outcome.status())
-        }
-        Ok(outcome) => outcome.status(),
-        Err(error) => report_refused(place, &error, detail, form_of(order), Some(&input)),
+    if let Order::JudgeLines(judging) = order {
+        return judge_lines_of_process(place, reader, writer, errors, *judging);
     }
-}
-
-// Does what is ordered of a log.
-fn status_of_log<P: Threads + Wait + Sync + AllocGlobal + Print + Eprint, R: Read + Drop>(
-    given: &Given<'_, P>,
-    reader: R,
-    writer: &mut AnswerWriter<'_, P>,
-    order: LogOrder,
-    manner: &Manner,
-) -> u8
-    ensures { result ≤ 6 }
-{
-    let place = &given.place;
-    let alloc = place.rt.alloc();
-    let mut source = Keeping::of(alloc, reader, wants_counts(manner));
-    let status = follow_log_of_process(place, &mut source, writer, order, given.rest);
-    match source.kept() {
-        Some(bytes) if is_answered(status) => {
-            status_by_counts(place, manner, counts_of_log(alloc, bytes), status)
-        }
-        _ => status,
-    }
-}
-
-// Whether a run with this status was answered.
-fn is_answered(status: u8) -> bool {
-    match status {
-        0 | 5 | 6 => true,
-        _ => false,
-    }
+    let mut writer = writer;
+    let status = status_of_order(place, reader, &mut writer, errors, order, detail, manner);
+    (writer, status)
 }

@@ -1,5 +1,7 @@
 //! A reader that tells how much was read.
 
+ghost use Rattle.std.specs.Prelude.{◌≡◌};
+
 use crate::place::Place;
 use crate::progress::Progress;
 use crate::waiting::Waiting;
@@ -17,7 +19,9 @@ pub(crate) struct Counted<'a, R> {
 pub(crate) fn counted_at<'a, P, R>(
     place: &Place<'a, P>,
     reader: R,
-) -> Counted<'a, Waiting<'a, P, R>> {
+) -> Counted<'a, Waiting<'a, P, R>>
+    ensures { result.reader.reader ≡ reader }
+{
     Counted {
         reader: Waiting::by(place.rt, reader),
         progress: place.progress,

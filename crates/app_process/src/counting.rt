@@ -1,5 +1,7 @@
 //! How much a run asks of its store.
 
+ghost use Rattle.std.specs.Prelude.{◌≡◌};
+
 use judge_memory::{LongEntry, LongHistory};
 use judge_reader::read_long;
 use log_events::{ClientCall, Ending, EventLog};
@@ -40,7 +42,9 @@ impl RunCounts {
     }
 
     /// How many reads were answered.
-    pub(crate) fn reads(&self) -> u64 {
+    pub(crate) fn reads(&self) -> u64
+        ensures { result ≡ self.now.reads }
+    {
         self.reads
     }
 

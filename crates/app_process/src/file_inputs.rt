@@ -1,21 +1,28 @@
 //! Inputs that are files.
 
-ghost use Rattle.std.specs.Prelude.{◌≤◌};
+ghost use Rattle.std.specs.Prelude.{◌≡◌, map, string_bytes, true};
+ghost use Rattle.std.specs.Io.KnownBytes.{prepend_known};
+ghost use Rattle.std.specs.Option.{option_copied};
+ghost use Rattle.app_command_line.specs.CommandLine.{AsksNothing};
+ghost use Rattle.app_process.specs.Process.{EndAll, EndsFile, EndsFiles, EndsInputOf, EndsMisuse, IsOfOne, label_of};
+ghost use Rattle.app_process.specs.Saying.{SaysSome};
+ghost use Rattle.app_process.specs.Statuses.{rank, worse};
+ghost use Rattle.app_process.specs.Steps.Choices.{AreChoices};
 
 use crate::asked_input::{Given, status_of_asked};
+use crate::choices::Choices;
+use crate::file_opening::{opened, rest_of, say_of_file};
 use crate::first_bytes::{FirstBytes, look};
-use crate::program::{USAGE_STATUS, report_usage};
+use crate::saying::Say;
 use crate::terminals::Terminals;
+use crate::usage::{USAGE_STATUS, report_usage};
 use crate::waiting::Waiting;
-use app_command_line::{Asked, Order, Sight, Task, asked_in, command_of, next_file, usage_fault};
-use app_logs::Rest;
-use std::fs::OpenFile;
-use std::io::Read;
+use app_command_line::{Asked, Order, Sight, Task, command_of, next_file, usage_fault};
+use std::io::{Read, Write};
 use std::rt::{Env, Files};
 use std::sync::Wait;
 use std::thread::Threads;
 use std::time::Clock;
-use std::{fs, io};
 
 // The name of standard input among files.
 const STANDARD_INPUT: &str = "-";
@@ -23,82 +30,97 @@ const STANDARD_INPUT: &str = "-";
 // The status after a file that could not be read.
 const UNREAD_STATUS: u8 = 3;
 
-/// Does what the words order on each of the files that they name, one after the other, and returns the worst status.
+/// Does what the words order on each of the files that they name, one after the other, and returns the writer, what was said, and the worst
+/// status.
 ///
 /// Where there are several, each line has the name of its file before it. The form of each is found by its first text, but where each
 /// line holds a history. A file that can't be opened is named on standard error.
+#[tactic(auto, using(crate::proofs::FileLaws::each_ends, crate::proofs::FileLaws::misuse_ends, crate::proofs::FileLaws::several_ends))]
 pub(crate) fn status_on_files<
-    P: Env + Files + Threads + Wait + Sync + AllocGlobal + Input + Print + Eprint + Clock,
->(rt: &P, terminals: Terminals, words: &[String], further: &[String]) -> u8
+    P: Env + Files + Threads + Wait + Sync + AllocGlobal + Input + Eprint + Clock,
+    W: Write + Drop + Send,
+    E: Say + Drop + Send,
+>(
+    rt: &P,
+    terminals: Terminals,
+    words: &[String],
+    further: &[String],
+    writer: W,
+    errors: E,
+) -> (W, E, u8)
 where
     P::Reader: Send,
     P::File: Send,
-    ensures { result ≤ 6 }
+    ensures { EndsFiles (map string_bytes words.now) terminals (map string_bytes further.now)
+        (W.contents writer) (W.contents result.0) (E.said errors) (E.said result.1) result.2 }
 {
+    let mut writer = writer;
+    let mut errors = errors;
     let choices = Choices::of(words);
-    let Some(asked) = choices.any() else {
-        return status_of_usage(rt, words, Sight::Unseen);
+    let Some(asked) = choices.any(words) else {
+        let status = status_of_usage(rt, words, Sight::Unseen, &mut writer, &mut errors);
+        return (writer, errors, status);
     };
     let is_many = has_several(further);
     if is_many && is_of_one(&asked) {
-        return status_of_several(rt);
+        say_several(rt, &mut errors);
+        return (writer, errors, USAGE_STATUS);
     }
+    let all = Inputs {
+        rt,
+        terminals,
+        words,
+        is_many,
+    };
+    status_of_each(&all, &choices, further, writer, errors)
+}
+
+/// What is known of all files.
+#[derive(Clone, Copy)]
+struct Inputs<'a, P> {
+    rt: &'a P,
+    terminals: Terminals,
+    words: &'a [String],
+    /// Whether there are several.
+    is_many: bool,
+}
+
+// Does what the words order on each file that further words name, and returns the worst status.
+#[tactic(auto, using(crate::proofs::FileLaws::so_far_none, crate::proofs::FileLaws::so_far_more, crate::proofs::FileLaws::so_far_all))]
+fn status_of_each<
+    P: Env + Files + Threads + Wait + Sync + AllocGlobal + Input + Eprint + Clock,
+    W: Write + Drop + Send,
+    E: Say + Drop + Send,
+>(all: &Inputs<'_, P>, choices: &Choices, further: &[String], writer: W, errors: E) -> (W, E, u8)
+where
+    P::Reader: Send,
+    P::File: Send,
+    requires { AreChoices (map string_bytes all.now.words.now) choices.now }
+    ensures { EndAll (map string_bytes all.now.words.now) all.now.terminals (map string_bytes further.now)
+        (W.contents writer) (W.contents result.0) (E.said errors) (E.said result.1) result.2 }
+{
+    let mut writer = writer;
+    let mut errors = errors;
     let mut worst = 0;
     let mut rest = further;
-    'files: for _ in 0..further.len() {
+    'files: for _ in all.rt.forever() {
         let Some((name, later)) = next_file(rest) else {
-            break;
+            return (writer, errors, worst);
         };
-        let label = if is_many { Some(name) } else { None };
-        let given = Given::of(rt, terminals, words, label, file_named(name));
-        worst = worse(worst, status_on_file(&given, &choices, name));
+        let (written, said, status) = status_on_file(all, choices, name, writer, errors);
+        writer = written;
+        errors = said;
+        worst = worse(worst, status);
         rest = later;
     }
-    worst
+    unreachable!()
 }
 
-/// What the words ask for, by how an input looks. It is found once for all files.
-#[derive(Clone, Copy)]
-struct Choices {
-    unseen: Option<Asked>,
-    log: Option<Asked>,
-    memory: Option<Asked>,
-    other: Option<Asked>,
-}
-
-impl Choices {
-    fn of(words: &[String]) -> Choices {
-        Choices {
-            unseen: asked_in(words, Sight::Unseen),
-            log: asked_in(words, Sight::Log),
-            memory: asked_in(words, Sight::Memory),
-            other: asked_in(words, Sight::Other),
-        }
-    }
-
-    // What they ask for on an input that looks so.
-    fn on(&self, sight: Sight) -> Option<Asked> {
-        match sight {
-            Sight::Unseen => self.unseen,
-            Sight::Log => self.log,
-            Sight::Memory => self.memory,
-            Sight::Other => self.other,
-        }
-    }
-
-    // What they ask for on an input of some form.
-    fn any(&self) -> Option<Asked> {
-        if self.unseen.is_some() {
-            return self.unseen;
-        }
-        if self.other.is_some() {
-            return self.other;
-        }
-        if self.memory.is_some() {
-            return self.memory;
-        }
-        self.log
-    }
+// The name that stands before each line, where there are several files.
+fn label_for<'a>(is_many: bool, name: &'a str) -> Option<&'a str>
+    ensures { option_copied result ≡ label_of is_many name.now }
+{
+    if is_many { Some(name) } else { None }
 }
 
 // The file of this name; none for standard input.
@@ -118,114 +140,133 @@ fn has_several(further: &[String]) -> bool {
     }
 }
 
-// Whether an answer is of one input: a picture, a page, or one that goes to a file.
-fn is_of_one(asked: &Asked) -> bool {
+// Whether an answer is of one input: a page, or one that goes to a file.
+fn is_of_one(asked: &Asked) -> bool
+    ensures { result ≡ true → IsOfOne asked.now }
+{
     match asked.task {
         Task::OfPage(_, _) => true,
-        _ => asked.manner.to_file,
+        Task::OfInput(_, _) | Task::OfLog(_) => asked.manner.to_file,
     }
 }
 
 // Writes what is wrong with words that ask for nothing on an input that looks so.
-fn status_of_usage<P: Files + AllocGlobal + Print + Eprint + Wait>(
+fn status_of_usage<P: Files + AllocGlobal + Eprint + Wait, W: Write, E: Say>(
     rt: &P,
     words: &[String],
     sight: Sight,
+    writer: &mut W,
+    errors: &mut E,
 ) -> u8
-    ensures { result ≤ 6 }
+    requires { AsksNothing sight (map string_bytes words.now) }
+    ensures { EndsMisuse sight (map string_bytes words.now) (W.contents writer.old) (W.contents writer.new)
+        (E.said errors.old) (E.said errors.new) result }
 {
     match command_of(rt.alloc(), words, sight) {
         Ok(_) => USAGE_STATUS,
-        Err(usage) => report_usage(rt, usage),
+        Err(usage) => report_usage(rt, writer, errors, usage),
     }
 }
 
 // Says that an answer of this form is of one file.
-fn status_of_several<P: AllocGlobal + Eprint>(rt: &P) -> u8
-    ensures { result ≤ 6 }
+#[tactic(auto, using(crate::proofs::SaidLaws::says_no_more, crate::proofs::SaidLaws::says_some))]
+fn say_several<P: AllocGlobal, E: Say>(rt: &P, errors: &mut E)
+    ensures { SaysSome (E.said errors.old) (E.said errors.new) }
 {
     let fault = "'-o' and '--html' take one FILE: each file has an answer of its own";
     if let Ok(text) = usage_fault(rt.alloc(), fault, "explain [OPTIONS] <FILE>") {
-        let _ = rt.eprint(text);
+        errors.say(text.as_str());
     }
-    USAGE_STATUS
 }
 
 // Does what the words order on one file.
+#[tactic(auto, using(crate::proofs::FileLaws::read_ends, crate::proofs::FileLaws::unread_ends))]
 fn status_on_file<
-    P: Env + Files + Threads + Wait + Sync + AllocGlobal + Input + Print + Eprint + Clock,
->(given: &Given<'_, P>, choices: &Choices, name: &str) -> u8
+    P: Env + Files + Threads + Wait + Sync + AllocGlobal + Input + Eprint + Clock,
+    W: Write + Drop + Send,
+    E: Say + Drop + Send,
+>(all: &Inputs<'_, P>, choices: &Choices, name: &str, writer: W, errors: E) -> (W, E, u8)
 where
     P::Reader: Send,
     P::File: Send,
-    ensures { result ≤ 6 }
+    requires { AreChoices (map string_bytes all.now.words.now) choices.now }
+    ensures { EndsFile (map string_bytes all.now.words.now) all.now.terminals (label_of all.now.is_many name.now)
+        (W.contents writer) (W.contents result.0) (E.said errors) (E.said result.1) result.2 }
 {
+    let label = label_for(all.is_many, name);
+    let given = Given::of(all.rt, all.terminals, all.words, label, file_named(name));
     if name == STANDARD_INPUT {
-        return status_on_reader(given, choices, name, given.place.rt.reader());
+        let reader = all.rt.reader();
+        return status_on_reader(&given, choices, name, reader, writer, errors);
     }
-    match opened(given.place.rt, name) {
+    match opened(all.rt, name) {
         Ok(file) => {
             let given = given.with_rest(rest_of(&file));
-            status_on_reader(&given, choices, name, file)
+            status_on_reader(&given, choices, name, file, writer, errors)
         }
         Err(fault) => {
-            say_of_file(given, name, fault);
-            UNREAD_STATUS
+            let mut errors = errors;
+            say_of_file(&mut errors, name, fault);
+            (writer, errors, UNREAD_STATUS)
         }
     }
-}
-
-// A file that is open, or what is wrong.
-fn opened<P: Files>(rt: &P, name: &str) -> Result<P::File, &'static str> {
-    let file = fs::open(rt, name).map_err(|error| fault_of(&error))?;
-    match file.metadata() {
-        Ok(found) if found.is_dir() => Err("it is a folder"),
-        _ => Ok(file),
-    }
-}
-
-// Whether the rest of a file is read where the judging of its log ends early: a read of a plain file never waits for more.
-fn rest_of<F: OpenFile>(file: &F) -> Rest {
-    match file.metadata() {
-        Ok(found) if found.is_file() => Rest::Read,
-        _ => Rest::Unread,
-    }
-}
-
-// What is wrong with a file that can't be opened.
-fn fault_of(error: &io::Error) -> &'static str {
-    match error.kind() {
-        io::ErrorKind::NotFound => "there is no such file",
-        io::ErrorKind::PermissionDenied => "it may not be read",
-        _ => "it can't be opened",
-    }
-}
-
-// Names a file and says what is wrong with it.
-fn say_of_file<P: Eprint>(given: &Given<'_, P>, name: &str, fault: &str) {
-    let _ = given.place.rt.eprint(name);
-    let _ = given.place.rt.eprint(": ");
-    let _ = given.place.rt.eprintln(fault);
 }
 
 // Does what the words order on the input that a reader has.
+#[tactic(auto, using(crate::proofs::FileLaws::lines_end))]
 fn status_on_reader<
-    P: Env + Files + Threads + Wait + Sync + AllocGlobal + Print + Eprint + Clock,
+    P: Env + Files + Threads + Wait + Sync + AllocGlobal + Eprint + Clock,
     R: Read + Drop + Send,
->(given: &Given<'_, P>, choices: &Choices, name: &str, reader: R) -> u8
-    ensures { result ≤ 6 }
+    W: Write + Drop + Send,
+    E: Say + Drop + Send,
+>(
+    given: &Given<'_, P>,
+    choices: &Choices,
+    name: &str,
+    reader: R,
+    writer: W,
+    errors: E,
+) -> (W, E, u8)
+    requires choices { AreChoices (map string_bytes given.now.words.now) choices.now }
+    requires terminal { given.now.place.is_terminal ≡ given.now.terminals.error }
+    ensures { EndsInputOf (map string_bytes given.now.words.now) given.now.terminals (option_copied given.now.place.label)
+        (R.remaining reader) (W.contents writer) (W.contents result.0) (E.said errors) (E.said result.1) result.2 }
 {
-    if let Some(asked) = choices.on(Sight::Unseen)
+    if let Some(asked) = choices.on(given.words, Sight::Unseen)
         && reads_lines(&asked)
     {
-        return status_of_asked(given, reader, &asked);
+        return status_of_asked(given, reader, writer, errors, &asked);
     }
+    status_by_look(given, choices, name, reader, writer, errors)
+}
+
+// The same, by how the input looks.
+#[tactic(auto, using(crate::proofs::FileLaws::read_again, crate::proofs::FileLaws::not_read))]
+fn status_by_look<
+    P: Env + Files + Threads + Wait + Sync + AllocGlobal + Eprint + Clock,
+    R: Read + Drop + Send,
+    W: Write + Drop + Send,
+    E: Say + Drop + Send,
+>(
+    given: &Given<'_, P>,
+    choices: &Choices,
+    name: &str,
+    reader: R,
+    writer: W,
+    errors: E,
+) -> (W, E, u8)
+    requires choices { AreChoices (map string_bytes given.now.words.now) choices.now }
+    requires terminal { given.now.place.is_terminal ≡ given.now.terminals.error }
+    ensures { EndsInputOf (map string_bytes given.now.words.now) given.now.terminals (option_copied given.now.place.label)
+        (R.remaining reader) (W.contents writer) (W.contents result.0) (E.said errors) (E.said result.1) result.2 }
+{
     let mut reader = Waiting::by(given.place.rt, reader);
     match look(given.place.rt.alloc(), &mut reader) {
-        Ok(first) => status_after(given, choices, first, reader),
+        Ok(first) => status_after(given, choices, first, reader, writer, errors),
         Err(_) => {
-            say_of_file(given, name, "it can't be read");
-            UNREAD_STATUS
+            let mut errors = errors;
+            say_of_file(&mut errors, name, "it can't be read");
+            (writer, errors, UNREAD_STATUS)
         }
     }
 }
@@ -240,28 +281,50 @@ fn reads_lines(asked: &Asked) -> bool {
 
 // Does what the words order on an input whose first bytes were read.
 fn status_after<
-    P: Env + Files + Threads + Wait + Sync + AllocGlobal + Print + Eprint + Clock,
+    P: Env + Files + Threads + Wait + Sync + AllocGlobal + Eprint + Clock,
     R: Read + Drop + Send,
->(given: &Given<'_, P>, choices: &Choices, first: FirstBytes, reader: R) -> u8
-    ensures { result ≤ 6 }
+    W: Write + Drop + Send,
+    E: Say + Drop + Send,
+>(
+    given: &Given<'_, P>,
+    choices: &Choices,
+    first: FirstBytes,
+    reader: R,
+    writer: W,
+    errors: E,
+) -> (W, E, u8)
+    requires choices { AreChoices (map string_bytes given.now.words.now) choices.now }
+    requires terminal { given.now.place.is_terminal ≡ given.now.terminals.error }
+    ensures { EndsInputOf (map string_bytes given.now.words.now) given.now.terminals (option_copied given.now.place.label)
+        (prepend_known first.bytes.items (R.remaining reader))
+        (W.contents writer) (W.contents result.0) (E.said errors) (E.said result.1) result.2 }
 {
-    match choices.on(first.sight) {
-        Some(asked) => status_of_asked(given, first.bytes.as_slice().chain(reader), &asked),
-        None => status_of_usage(given.place.rt, given.words, first.sight),
+    match choices.on(given.words, first.sight) {
+        Some(asked) => {
+            let reader = first.bytes.as_slice().chain(reader);
+            status_of_asked(given, reader, writer, errors, &asked)
+        }
+        None => {
+            let mut writer = writer;
+            let mut errors = errors;
+            let rt = given.place.rt;
+            let status = status_of_usage(rt, given.words, first.sight, &mut writer, &mut errors);
+            (writer, errors, status)
+        }
     }
 }
 
 // The worse of two statuses: wrong words, then a fault of reading, writing or memory, then a refusal, then a criterion that is not met, and
 // then one of which nothing is known.
 fn worse(one: u8, other: u8) -> u8
-    requires one { one ≤ 6 }
-    requires other { other ≤ 6 }
-    ensures { result ≤ 6 }
+    ensures { result ≡ worse one other }
 {
     if rank(one) < rank(other) { other } else { one }
 }
 
-fn rank(status: u8) -> u8 {
+fn rank(status: u8) -> u8
+    ensures { result ≡ rank status }
+{
     match status {
         0 => 0,
         6 => 1,

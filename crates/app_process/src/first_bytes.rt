@@ -1,5 +1,9 @@
 //! The form of an input, as far as its first bytes show it.
 
+ghost use Rattle.std.specs.Prelude.{IfOk, OnOk};
+ghost use Rattle.std.specs.Io.KnownBytes.{Consumes};
+ghost use Rattle.app_process.specs.Steps.Readings.{Reads};
+
 use app_command_line::Sight;
 use std::alloc::Global;
 use std::io;
@@ -24,20 +28,17 @@ pub(crate) struct FirstBytes {
 /// Reads as far as the first text of an input, which tells logs from histories, and gives the bytes that were read.
 ///
 /// Where there is none within some first bytes, the form is [`Sight::Other`]. It fails where a read call does, or for want of memory.
-pub(crate) fn look<R: Read>(alloc: Global, reader: &mut R) -> io::Result<FirstBytes> {
+#[tactic(auto, using(crate::proofs::ReadLaws::consumes_nothing, crate::proofs::ReadLaws::consumes_more))]
+pub(crate) fn look<R: Read>(alloc: Global, reader: &mut R) -> io::Result<FirstBytes>
+    ensures { IfOk result (λ first. Consumes (R.remaining reader.old) (R.remaining reader.new) first.bytes.items) }
+{
     let mut bytes = Vec::new(alloc);
-    let mut chunk = [0u8; CHUNK_BYTES];
-    for _ in 0..MOST_CALLS {
-        match reader.read(&mut chunk) {
-            Ok(0) => break,
-            Ok(count) => bytes.extend_from_slice(&chunk[..count])?,
-            Err(error) if error.kind() == io::ErrorKind::Interrupted => {}
-            Err(error) => return Err(error),
-        }
+    'calls: for _ in 0..MOST_CALLS {
+        let goes_on = read_more(reader, &mut bytes)?;
         if let Some(sight) = sight_of(bytes.as_slice()) {
             return Ok(FirstBytes { bytes, sight });
         }
-        if bytes.len() > MOST_BYTES {
+        if !goes_on || bytes.len() > MOST_BYTES {
             break;
         }
     }
@@ -45,6 +46,22 @@ pub(crate) fn look<R: Read>(alloc: Global, reader: &mut R) -> io::Result<FirstBy
         bytes,
         sight: Sight::Other,
     })
+}
+
+// Makes one read call, appends what it gave, and returns whether there may be more.
+#[tactic(auto, using(crate::proofs::ReadLaws::reads_nothing))]
+fn read_more<R: Read>(reader: &mut R, bytes: &mut Vec<u8>) -> io::Result<bool>
+    ensures { OnOk result (Reads (R.remaining reader.old) (R.remaining reader.new) bytes.old.items bytes.new.items) }
+{
+    let mut chunk = [0u8; CHUNK_BYTES];
+    match reader.read(&mut chunk) {
+        Ok(count) => {
+            bytes.extend_from_slice(&chunk[..count])?;
+            Ok(count > 0)
+        }
+        Err(error) if error.kind() == io::ErrorKind::Interrupted => Ok(true),
+        Err(error) => Err(error),
+    }
 }
 
 // What some first bytes show; none where they have no whole text yet.

@@ -1,5 +1,7 @@
 //! A reader that keeps what was read.
 
+ghost use Rattle.std.specs.Prelude.{◌≡◌};
+
 use std::alloc::Global;
 use std::io;
 use std::io::Read;
@@ -13,7 +15,9 @@ pub(crate) struct Keeping<R> {
 
 impl<R> Keeping<R> {
     /// A reader of the same bytes.
-    pub(crate) fn of(alloc: Global, reader: R, is_wanted: bool) -> Keeping<R> {
+    pub(crate) fn of(alloc: Global, reader: R, is_wanted: bool) -> Keeping<R>
+        ensures { result.reader ≡ reader }
+    {
         Keeping {
             reader,
             kept: if is_wanted {

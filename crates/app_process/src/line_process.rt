@@ -1,42 +1,78 @@
 //! Lines of an input, each of which is to hold a history.
 
-ghost use Rattle.std.specs.Prelude.{◌≤◌};
+ghost use Rattle.std.specs.Prelude.{◌≡◌, ◌≢◌, ◌⊎◌, IfErr, IfOk};
+ghost use Rattle.std.specs.Option.{option_copied};
+ghost use Rattle.json_lines.specs.Lines.{AllAreAnswered, FirstAreAnswered};
+ghost use Rattle.app_engine.specs.LineAnswers.{IsLineAnswer};
+ghost use Rattle.app_process.specs.Endings.{EndsLines};
+ghost use Rattle.app_process.specs.Saying.{SaysSome};
 
-use crate::answer_writer::AnswerWriter;
 use crate::noticing::Noticing;
 use crate::place::Place;
-use crate::program::report;
+use crate::reporting::report;
+use crate::saying::Say;
 use app_command_line::LineJudging;
-use app_engine::judge_lines;
-use std::io::Read;
+use app_engine::{RunError, judge_lines};
+use json_lines::Outcome;
+use std::io::{Read, Write};
 use std::sync::Wait;
 use std::thread::Threads;
 
 /// Judges the history in each line of an input, and returns the writer and the exit status.
 ///
 /// Standard error gets one remark for the first blank line that is refused, and one for the first line that breaks off inside a JSON text.
+#[tactic(auto, using(crate::proofs::EndLaws::answers_lines, crate::proofs::EndLaws::fails_lines))]
 pub(crate) fn judge_lines_of_process<
-    'a,
-    P: Threads + Wait + Sync + AllocGlobal + Print + Eprint,
+    P: Threads + Wait + Sync + AllocGlobal + Eprint,
     R: Read + Drop + Send,
->(
-    place: &Place<'_, P>,
-    reader: R,
-    writer: AnswerWriter<'a, P>,
-    judging: LineJudging,
-) -> (AnswerWriter<'a, P>, u8)
-    ensures { result.1 ≤ 6 }
+    W: Write + Drop + Send,
+    E: Say,
+>(place: &Place<'_, P>, reader: R, writer: W, errors: &mut E, judging: LineJudging) -> (W, u8)
+    ensures { EndsLines (option_copied place.now.label) judging (R.remaining reader) (W.contents writer) (W.contents result.0)
+        (E.said errors.old) (E.said errors.new) result.1 }
 {
     let reader = Noticing::of(judging.blank, reader);
-    let (mut reader, writer, outcome) = judge_lines(place.rt, reader, writer, judging);
+    let (mut reader, writer, outcome) = judge_noticed(place.rt, reader, writer, judging);
     let status = match outcome {
         Ok(outcome) => {
-            if let Ok(remarks) = reader.remarks(place.rt.alloc()) {
-                place.say(remarks.as_str());
-            }
+            say_remarks(place, errors, &mut reader);
             outcome.status()
         }
-        Err(error) => report(place, Err(error)),
+        Err(error) => report(place, errors, &error),
     };
     (writer, status)
+}
+
+// Judges the lines that a reader notices. Of what `judge_lines` promises, only the answers and the errors are told here.
+fn judge_noticed<
+    P: Threads + Wait + Sync + AllocGlobal,
+    R: Read + Drop + Send,
+    W: Write + Drop + Send,
+>(
+    rt: &P,
+    reader: Noticing<R>,
+    writer: W,
+    judging: LineJudging,
+) -> (Noticing<R>, W, Result<Outcome, RunError>)
+    ensures answered { IfOk result.2 (AllAreAnswered (IsLineAnswer judging)
+        (R.remaining reader.reader) (W.contents writer) (W.contents result.1)) }
+    ensures faulted { IfErr result.2 (λ e. e ≢ RunError.WriteFault → FirstAreAnswered (IsLineAnswer judging)
+        (R.remaining reader.reader) (W.contents writer) (W.contents result.1)) }
+    ensures error { IfErr result.2 (λ e. (e ≡ RunError.Memory) ⊎ ((e ≡ RunError.ReadFault) ⊎ (e ≡ RunError.WriteFault))) }
+{
+    judge_lines(rt, reader, writer, judging)
+}
+
+// Says what was noticed of the lines, where memory suffices.
+#[tactic(auto, using(crate::proofs::SaidLaws::says_no_more, crate::proofs::SaidLaws::says_some))]
+fn say_remarks<P: AllocGlobal + Eprint + Wait, R, E: Say>(
+    place: &Place<'_, P>,
+    errors: &mut E,
+    reader: &mut Noticing<R>,
+)
+    ensures { SaysSome (E.said errors.old) (E.said errors.new) }
+{
+    if let Ok(remarks) = reader.remarks(place.rt.alloc()) {
+        place.say(errors, remarks.as_str());
+    }
 }

@@ -1,5 +1,7 @@
 //! What is noticed of lines each of which is to hold a history.
 
+ghost use Rattle.std.specs.Prelude.{◌≡◌};
+
 use app_command_line::BlankLines;
 use std::alloc::{AllocError, Global};
 use std::io;
@@ -15,7 +17,9 @@ pub(crate) struct Noticing<R> {
 
 impl<R> Noticing<R> {
     /// A reader of the same bytes. Blank lines are noticed where they are refused.
-    pub(crate) fn of(blank: BlankLines, reader: R) -> Noticing<R> {
+    pub(crate) fn of(blank: BlankLines, reader: R) -> Noticing<R>
+        ensures { result.reader ≡ reader }
+    {
         Noticing {
             reader,
             noticed: Noticed::nothing(blank),

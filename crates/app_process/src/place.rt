@@ -1,9 +1,16 @@
-//! Where what is said of an input goes.
+//! How what is said of an input is said.
+
+ghost use Rattle.std.specs.Prelude.{◌≡◌, None};
+ghost use Rattle.std.specs.Option.{option_copied};
+ghost use Rattle.std.specs.Io.KnownBytes.{Appends};
+ghost use Rattle.app_process.specs.Saying.{said_lines};
 
 use crate::progress::Progress;
+use crate::saying::{Say, say_lines};
 use std::sync::Wait;
 
-/// Where what is said of an input goes: to standard error, each line after the name of the file where there are several.
+/// How what is said of an input is said: each line after the name of the file where there are several, and in the place of how far the
+/// work is.
 #[derive(Clone, Copy)]
 pub(crate) struct Place<'a, P> {
     /// The process.
@@ -18,7 +25,9 @@ pub(crate) struct Place<'a, P> {
 
 impl<'a, P> Place<'a, P> {
     /// The place of what is of no file.
-    pub(crate) fn plain(rt: &'a P) -> Place<'a, P> {
+    pub(crate) fn plain(rt: &'a P) -> Place<'a, P>
+        ensures { result.label ≡ None }
+    {
         Place {
             rt,
             label: None,
@@ -31,6 +40,8 @@ impl<'a, P> Place<'a, P> {
     pub(crate) fn with<'b>(&self, progress: &'b Progress<'b>) -> Place<'b, P>
     where
         'a: 'b,
+        ensures label { result.label ≡ self.now.label }
+        ensures terminal { result.is_terminal ≡ self.now.is_terminal }
     {
         Place {
             rt: self.rt,
@@ -42,16 +53,12 @@ impl<'a, P> Place<'a, P> {
 }
 
 impl<P: Eprint + Wait> Place<'_, P> {
-    /// Writes lines to standard error. Nothing comes of a failure.
-    pub(crate) fn say(&self, lines: &str) {
+    /// Says lines. Nothing comes of a failure.
+    pub(crate) fn say<E: Say>(&self, errors: &mut E, lines: &str)
+        ensures { Appends (E.said errors.old) (E.said errors.new) (said_lines (option_copied self.now.label) lines.now) }
+    {
         self.make_room();
-        for line in lines.lines() {
-            if let Some(label) = self.label {
-                let _ = self.rt.eprint(label);
-                let _ = self.rt.eprint(": ");
-            }
-            let _ = self.rt.eprintln(line);
-        }
+        say_lines(errors, self.label, lines);
         if let Some(progress) = self.progress {
             progress.let_go(self.rt);
         }

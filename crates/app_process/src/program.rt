@@ -1,31 +1,27 @@
 //! The process: its words, its streams and its exit status.
-ghost use Rattle.std.specs.Prelude.{◌≡◌, ◌≤◌, ◌⊎◌};
-ghost use Rattle.app_engine.specs.Failure.{status_for};
-ghost use Rattle.app_command_line.specs.CommandLine.{IsUsageStatus};
+
+ghost use Rattle.std.specs.Prelude.{◌≤◌, MatchOption, map, string_bytes};
+ghost use Rattle.app_process.specs.Process.{EndsRun, EndsWords, IsAfterCommand, NamesNoFile};
 
 use crate::asked_input::{Given, status_of_asked};
-use crate::build_record::print_gate;
 use crate::file_inputs::status_on_files;
-use crate::place::Place;
-use crate::refused::reason_of;
+use crate::saying::{Say, StandardError};
 use crate::terminals::Terminals;
-use app_command_line::{Detail, Sight, Usage, command_of, fault_with, next_file};
-use app_engine::{RunError, fault_line, status_of};
-use show_refusals::InputForm;
+use crate::usage::report_usage;
+use app_command_line::{Sight, Usage, command_of, fault_with, next_file};
+use std::io::{Read, Write};
 use std::rt::{Env, Files};
 use std::sync::Wait;
 use std::thread::Threads;
 use std::time::Clock;
 use std::{env, io};
 
-pub(crate) const USAGE_STATUS: u8 = 2;
-
 /// Does what the process's words order, and returns its exit status.
 ///
-/// An answer or the help goes to standard output. What is wrong goes to standard error: the text of a usage fault,
-/// with status 2, or the line of a run that failed. Where the words name files, each is read in its turn, and the status is the worst
-/// of theirs; else standard input is. If an input has nothing yet and does not wait for it, like a
+/// It gives [`status_of_words`] the words and the streams of the process: an answer or the help goes to standard output, and what is
+/// wrong to standard error. Words that are no text have status 2. If an input has nothing yet and does not wait for it, like a
 /// pipe that must not block, it is read again a millisecond later, and each time counts as a read call that gave no byte.
+#[tactic(auto, using(crate::proofs::FewLaws::few_of_usage))]
 pub fn status_of_process<
     P: Env + Files + Threads + Wait + Sync + AllocGlobal + Input + Print + Eprint + Clock,
 >(rt: &P, terminals: Terminals) -> u8
@@ -34,64 +30,101 @@ where
     P::File: Send,
     ensures { result ≤ 6 }
 {
+    let mut writer = io::writer(rt);
+    let mut errors = StandardError::of(rt);
     match words_of_process(rt) {
-        Ok(words) => status_of_words(rt, terminals, words.as_slice()),
-        Err(usage) => report_usage(rt, usage),
+        Ok(words) => {
+            let reader = rt.reader();
+            let words = words.as_slice();
+            let (_, _, status) = status_of_words(rt, terminals, words, reader, writer, errors);
+            status
+        }
+        Err(usage) => report_usage(rt, &mut writer, &mut errors, usage),
     }
 }
 
-// Does what some words order.
-fn status_of_words<
+/// Does what some words order, on the files that they name, or where they name none on the input that a reader has. Returns the writer
+/// with the answer, what was said beside it, and the exit status.
+///
+/// The clause says which command the words are, what the answer is and which status it has; and for each failure what stays unwritten,
+/// what is said and which status it has: 1 where the input is refused, 3 where the reader or the writer failed, and 4 where memory ran
+/// out. Words that are no command line have status 2, and help and the version 0. Of several files the status is the worst. Of the text
+/// of an answer whose lines have colours or the names of files the clause says nothing.
+/// The cost is that of [`run_keeping`](app_engine::run_keeping), [`judge_lines`](app_engine::judge_lines),
+/// [`follow_log`](app_logs::follow_log) or the functions of app_pages.
+#[tactic(auto, using(crate::proofs::AskedLaws::run_on_files, crate::proofs::AskedLaws::run_on_input))]
+pub fn status_of_words<
     'w,
-    P: Env + Files + Threads + Wait + Sync + AllocGlobal + Input + Print + Eprint + Clock,
->(rt: &'w P, terminals: Terminals, words: &'w [String]) -> u8
+    P: Env + Files + Threads + Wait + Sync + AllocGlobal + Input + Eprint + Clock,
+    R: Read + Drop + Send,
+    W: Write + Drop + Send,
+    E: Say + Drop + Send,
+>(
+    rt: &'w P,
+    terminals: Terminals,
+    words: &'w [String],
+    reader: R,
+    writer: W,
+    errors: E,
+) -> (W, E, u8)
 where
     P::Reader: Send,
     P::File: Send,
-    ensures { result ≤ 6 }
+    ensures { EndsRun (map string_bytes words.now) terminals (R.remaining reader)
+        (W.contents writer) (W.contents result.0) (E.said errors) (E.said result.1) result.2 }
 {
-    if let [_, _, further @ ..] = words
-        && next_file(further).is_some()
-    {
-        return status_on_files(rt, terminals, words, further);
+    match words_with_files(words) {
+        Some(further) => status_on_files(rt, terminals, words, further, writer, errors),
+        None => status_on_input(rt, terminals, words, reader, writer, errors),
     }
+}
+
+// The words after that of a command, where they name a file.
+#[tactic(auto, using(crate::proofs::AskedLaws::after_command, crate::proofs::AskedLaws::no_file, crate::proofs::AskedLaws::few_words))]
+fn words_with_files<'w>(words: &'w [String]) -> Option<&'w [String]>
+    ensures { MatchOption result (NamesNoFile (map string_bytes words.now))
+        (λ further. IsAfterCommand (map string_bytes words.now) (map string_bytes further.now)) }
+{
+    let [_, _, further @ ..] = words else {
+        return None;
+    };
+    match next_file(further) {
+        Some(_) => Some(further),
+        None => None,
+    }
+}
+
+// Does what words that name no file order.
+#[tactic(auto, using(crate::proofs::AskedLaws::words_asked, crate::proofs::AskedLaws::words_misused))]
+fn status_on_input<
+    'w,
+    P: Env + Files + Threads + Wait + Sync + AllocGlobal + Eprint + Clock,
+    R: Read + Drop + Send,
+    W: Write + Drop + Send,
+    E: Say + Drop + Send,
+>(
+    rt: &'w P,
+    terminals: Terminals,
+    words: &'w [String],
+    reader: R,
+    writer: W,
+    errors: E,
+) -> (W, E, u8)
+    ensures { EndsWords (map string_bytes words.now) terminals (R.remaining reader)
+        (W.contents writer) (W.contents result.0) (E.said errors) (E.said result.1) result.2 }
+{
     match command_of(rt.alloc(), words, Sight::Unseen) {
         Ok(asked) => {
             let given = Given::of(rt, terminals, words, None, None);
-            status_of_asked(&given, rt.reader(), &asked)
+            status_of_asked(&given, reader, writer, errors, &asked)
         }
-        Err(usage) => report_usage(rt, usage),
-    }
-}
-
-/// Writes what is said of words that give no task, and returns the exit status.
-pub(crate) fn report_usage<P: Files + AllocGlobal + Print + Eprint + Wait>(
-    rt: &P,
-    usage: Usage,
-) -> u8
-    ensures status { IsUsageStatus usage result }
-    ensures few { result ≤ 4 }
-{
-    match usage {
-        Usage::Help(text) => print_help(rt, text),
-        Usage::Memory => report(&Place::plain(rt), Err(RunError::Memory)),
-        Usage::Fault(text) => {
-            let _ = rt.eprint(text);
-            USAGE_STATUS
+        Err(usage) => {
+            let mut writer = writer;
+            let mut errors = errors;
+            let status = report_usage(rt, &mut writer, &mut errors, usage);
+            (writer, errors, status)
         }
     }
-}
-
-// Writes the help or the version, and after the version whether the gate passed for this build.
-fn print_help<P: Files + AllocGlobal + Print + Eprint + Wait>(rt: &P, text: String) -> u8
-    ensures { (result ≡ 0) ⊎ ((result ≡ 3) ⊎ (result ≡ 4)) }
-{
-    let is_version = text.starts_with("causal_judge ");
-    let outcome = rt.print(text).map_err(|_| RunError::WriteFault);
-    if is_version && outcome.is_ok() {
-        print_gate(rt);
-    }
-    report(&Place::plain(rt), outcome)
 }
 
 fn words_of_process<P: Env + AllocGlobal>(rt: &P) -> Result<Vec<String>, Usage> {
@@ -105,63 +138,3 @@ fn words_of_process<P: Env + AllocGlobal>(rt: &P) -> Result<Vec<String>, Usage> 
 // The fault of words that are no text.
 const BAD_WORDS: &str =
     "error: invalid UTF-8 was detected in one or more arguments\n\nFor more information, try '--help'.\n";
-
-/// Writes the line of a run that failed, and if the detail is `Reason`, a second line on what is wrong with its input. The
-/// second line is left out if memory does not suffice for both. Returns the exit status.
-pub(crate) fn report_refused<P: AllocGlobal + Eprint + Wait>(
-    place: &Place<'_, P>,
-    error: &RunError,
-    detail: Detail,
-    form: InputForm,
-    input: Option<&[u8]>,
-) -> u8
-    ensures { result ≤ 4 }
-{
-    let status = report(place, Err(*error));
-    if status == status_of(&Err(*error)) {
-        say_reason(place, error, detail, form, input);
-    }
-    status
-}
-
-// Says what is wrong with an input where the detail is `Reason`; else says on a terminal how to ask for that.
-fn say_reason<P: AllocGlobal + Eprint + Wait>(
-    place: &Place<'_, P>,
-    error: &RunError,
-    detail: Detail,
-    form: InputForm,
-    input: Option<&[u8]>,
-) {
-    let Ok(Some(reason)) = reason_of(place.rt.alloc(), input, form, error) else {
-        return;
-    };
-    if detail == Detail::Reason {
-        place.say(reason.as_str());
-    } else if place.is_terminal {
-        place.say(ASKS_WHY);
-    }
-}
-
-// How to ask for the reason of a refusal.
-const ASKS_WHY: &str = "--why says what is wrong; a FILE in the place of '<' finds its form";
-
-/// Writes the line of a run that failed, and returns the exit status. If there is no memory for the line, it returns the
-/// status for want of memory.
-pub(crate) fn report<P: AllocGlobal + Eprint + Wait>(
-    place: &Place<'_, P>,
-    outcome: Result<(), RunError>,
-) -> u8
-    ensures status { (result ≡ status_for outcome) ⊎ (result ≡ 4) }
-    ensures few { result ≤ 4 }
-{
-    let status = status_of(&outcome);
-    let Err(error) = outcome else {
-        return status;
-    };
-    let Ok(line) = fault_line(place.rt.alloc(), &error) else {
-        place.say("no memory");
-        return status_of(&Err(RunError::Memory));
-    };
-    place.say(line.as_str());
-    status
-}

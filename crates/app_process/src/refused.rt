@@ -1,5 +1,8 @@
 //! What is said of an input that is refused.
 
+ghost use Rattle.std.specs.Prelude.{◌≡◌, None, IfOk, MatchOption, string_bytes};
+ghost use Rattle.app_process.specs.Failing.{IsReason, form_for, history_form, long_refusal, refusal_for, script_refusal};
+
 use app_command_line::{Length, Order};
 use app_engine::RunError;
 use json_histories::ReadError;
@@ -13,7 +16,10 @@ pub(crate) fn reason_of(
     input: Option<&[u8]>,
     form: InputForm,
     error: &RunError,
-) -> Result<Option<String>, AllocError> {
+) -> Result<Option<String>, AllocError>
+    ensures { IfOk result (λ found. MatchOption found (refusal_for form error.now ≡ None)
+        (λ reason. IsReason (refusal_for form error.now) (string_bytes reason))) }
+{
     match refusal_of(form, error) {
         Some(refusal) => Ok(Some(reason_for(alloc, input, form, refusal)?)),
         None => Ok(None),
@@ -21,7 +27,9 @@ pub(crate) fn reason_of(
 }
 
 /// What the input of an order is to be.
-pub(crate) fn form_of(order: &Order) -> InputForm {
+pub(crate) fn form_of(order: &Order) -> InputForm
+    ensures { result ≡ form_for order.now }
+{
     match order {
         Order::Judge(judging) => history_form(judging.length),
         Order::ExplainLong(_) => InputForm::LongHistory,
@@ -35,7 +43,9 @@ pub(crate) fn form_of(order: &Order) -> InputForm {
 }
 
 /// What a history of this length is to be.
-pub(crate) fn history_form(length: Length) -> InputForm {
+pub(crate) fn history_form(length: Length) -> InputForm
+    ensures { result ≡ history_form length }
+{
     match length {
         Length::Limited => InputForm::History,
         Length::Any => InputForm::LongHistory,
@@ -43,7 +53,9 @@ pub(crate) fn history_form(length: Length) -> InputForm {
 }
 
 // Why the input of this form was refused, where that is why a run failed.
-fn refusal_of(form: InputForm, error: &RunError) -> Option<Refusal> {
+fn refusal_of(form: InputForm, error: &RunError) -> Option<Refusal>
+    ensures { result ≡ refusal_for form error.now }
+{
     match error {
         RunError::History(refused) => Some(Refusal::Read(*refused)),
         RunError::Script(refused) => refusal_of_script(refused),
@@ -52,16 +64,27 @@ fn refusal_of(form: InputForm, error: &RunError) -> Option<Refusal> {
         RunError::NotThatPattern => Some(Refusal::NotThatPattern),
         RunError::BadLimits => Some(Refusal::NoSession),
         RunError::NoSuch => Some(Refusal::NoSuchSession),
-        RunError::TooLong => match form {
-            InputForm::LongHistory | InputForm::LongClaim => Some(Refusal::OverLong),
-            _ => Some(Refusal::TooLong),
-        },
+        RunError::TooLong => Some(long_refusal(form)),
         RunError::Memory | RunError::ReadFault | RunError::WriteFault => None,
     }
 }
 
+// Why an input that is too long was refused.
+fn long_refusal(form: InputForm) -> Refusal
+    ensures { result ≡ long_refusal form }
+{
+    match form {
+        InputForm::LongHistory | InputForm::LongClaim => Refusal::OverLong,
+        InputForm::History | InputForm::Certified | InputForm::Claim | InputForm::Script => {
+            Refusal::TooLong
+        }
+    }
+}
+
 // Why a script was refused, where it was.
-fn refusal_of_script(error: &ScriptError) -> Option<Refusal> {
+fn refusal_of_script(error: &ScriptError) -> Option<Refusal>
+    ensures { result ≡ script_refusal error.now }
+{
     match error {
         ScriptError::NotJson => Some(Refusal::Read(ReadError::NotJson)),
         ScriptError::BadShape => Some(Refusal::Read(ReadError::BadShape)),

@@ -1,6 +1,10 @@
 //! Answers that go to a file.
 
+ghost use Rattle.std.specs.Prelude.{◌≡◌, false, true};
+ghost use Rattle.app_process.specs.Saying.{SaysSome};
+
 use crate::place::Place;
+use crate::saying::Say;
 use std::rt::Files;
 use std::sync::Wait;
 use std::{fs, io};
@@ -9,17 +13,22 @@ use std::{fs, io};
 ///
 /// The answer is written beside the file first, under the file's name with `.part` after it, which then takes the place of the file. So
 /// the file has the whole answer, or what it had. What is no plain file, as a pipe, is written to as it is.
-pub(crate) fn save<P: Files + AllocGlobal + Eprint + Wait>(
+#[tactic(auto, using(crate::proofs::SaidLaws::says_two))]
+pub(crate) fn save<P: Files + AllocGlobal + Eprint + Wait, E: Say>(
     place: &Place<'_, P>,
+    errors: &mut E,
     name: &str,
     answer: &[u8],
-) -> bool {
+) -> bool
+    ensures saved { result ≡ true → errors.new ≡ errors.old }
+    ensures unsaved { result ≡ false → SaysSome (E.said errors.old) (E.said errors.new) }
+{
     match written(place.rt, name, answer) {
         Ok(()) => true,
         Err(_) => {
             place.make_room();
-            let _ = place.rt.eprint(name);
-            let _ = place.rt.eprintln(": the answer can't be written there");
+            errors.say(name);
+            errors.say_line(": the answer can't be written there");
             false
         }
     }

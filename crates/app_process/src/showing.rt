@@ -1,12 +1,14 @@
 //! Work whose progress is shown.
 
-ghost use Rattle.std.specs.Prelude.{◌≤◌};
+ghost use Rattle.std.specs.Option.{option_copied};
+ghost use Rattle.app_process.specs.Process.{EndsAsked};
 
-use crate::asked_input::{Given, status_by};
+use crate::asked_input::{Given, status_said};
 use crate::progress::Progress;
 use crate::progress_view::ProgressView;
+use crate::saying::Say;
 use app_command_line::{Asked, LogOrder, Order, Task};
-use std::io::Read;
+use std::io::{Read, Write};
 use std::rt::{Env, Files};
 use std::sync::Wait;
 use std::thread::Threads;
@@ -37,35 +39,41 @@ pub(crate) fn view_of<'a, P: Files>(
     })
 }
 
-/// Does what is asked for on an input that a reader has, while another thread shows how far that is, and returns the exit status.
+/// Does what is asked for on an input that a reader has, while another thread shows how far that is. Returns the writer, what was said,
+/// and the exit status.
 pub(crate) fn status_shown<
-    P: Env + Files + Threads + Wait + Sync + AllocGlobal + Print + Eprint + Clock,
+    P: Env + Files + Threads + Wait + Sync + AllocGlobal + Eprint + Clock,
     R: Read + Drop + Send,
->(given: &Given<'_, P>, view: ProgressView<'_>, reader: R, asked: &Asked) -> u8
-    ensures { result ≤ 6 }
+    W: Write + Drop + Send,
+    E: Say + Drop + Send,
+>(
+    given: &Given<'_, P>,
+    view: ProgressView<'_>,
+    reader: R,
+    writer: W,
+    errors: E,
+    asked: &Asked,
+) -> (W, E, u8)
+    ensures { EndsAsked (option_copied given.now.place.label) given.now.place.is_terminal given.now.terminals.output
+        asked.now (R.remaining reader) (W.contents writer) (W.contents result.0) (E.said errors) (E.said result.1) result.2 }
 {
     let rt = given.place.rt;
     let progress = Progress::of(rt, view);
     progress.show(rt);
-    let seen = Given {
-        place: given.place.with(&progress),
-        terminals: given.terminals,
-        words: given.words,
-        input: given.input,
-        rest: given.rest,
-    };
-    let (_, status) = thread::join(
+    let seen = given.with_progress(&progress);
+    let (_, ended) = thread::join(
         rt,
         || progress.watch(rt),
-        || -> u8
-            ensures { result ≤ 6 }
+        || -> (W, E, u8)
+            ensures { EndsAsked (option_copied seen.entry.place.label) seen.entry.place.is_terminal seen.entry.terminals.output
+                asked.entry.now (R.remaining reader) (W.contents writer) (W.contents result.0) (E.said errors) (E.said result.1) result.2 }
         {
-            let status = status_by(&seen, reader, asked);
+            let ended = status_said(&seen, reader, writer, errors, asked);
             progress.end(rt);
-            status
+            ended
         },
     );
-    status
+    ended
 }
 
 // How many bytes an input has, where it is a plain file.

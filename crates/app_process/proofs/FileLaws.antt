@@ -1,0 +1,161 @@
+-- How a run over files ends, by what its parts promise.
+use Rattle.std.specs.Prelude.{◌≡◌, ◌++◌, ℕ, List, [], ◌∷◌, Bool, false, Option, None, Some, refl}
+use Rattle.std.specs.Fmt.{option_append}
+use Rattle.std.specs.Io.KnownBytes.{Consumes, prepend_known}
+use Rattle.std.proofs.Common.{inl, inr, ap, sym, subst, ◌∙◌, append-nil, append_assoc}
+use Rattle.clap.specs.Words.{Text}
+use Rattle.app_command_line.specs.CommandLine.{AsksNothing, IsCommandLine}
+use Rattle.app_command_line.specs.Options.{AreFiles}
+use Rattle.app_command_line.specs.declared.manner.Asked.{Asked}
+use Rattle.app_command_line.specs.declared.sight.Sight.{Sight}
+use Rattle.app_command_line.specs.declared.sight.Sight.TheVariants.{Unseen}
+use Rattle.app_process.specs.declared.terminals.Terminals.{Terminals}
+use Rattle.app_process.specs.Process.{EndAll, EndEach, EndsAsked, EndsFile, EndsFiles, EndsInputOf, EndsMisuse, IsKnownOf, IsOfOne, label_of}
+use Rattle.app_process.specs.Saying.{SaysSome}
+use Rattle.app_process.specs.Statuses.{worse}
+
+-- words that ask for nothing are no command line
+pub not_asked : (sight : Sight) (words : List Text) (asked : Asked) (before after said_before said_after : Option (List ℕ)) (status : ℕ)
+    → AsksNothing sight words → IsCommandLine sight asked words → EndsMisuse sight words before after said_before said_after status
+not_asked sight words asked before after said_before said_after status none is_line = absurd (none asked is_line)
+
+-- a reader is known of itself
+pub known_itself : (reader : Option (List ℕ)) → IsKnownOf reader reader
+known_itself None = tt
+known_itself (Some xs) = refl
+
+-- some bytes that were read, and those after them
+pub known_again : (reader rest : Option (List ℕ)) (bytes : List ℕ) → Consumes reader rest bytes → IsKnownOf reader (prepend_known bytes rest)
+known_again None rest bytes consumed = tt
+known_again (Some xs) None bytes consumed = absurd consumed
+known_again (Some xs) (Some ys) bytes consumed = ap Some (sym consumed)
+
+module _ (words : List Text) (terminals : Terminals) (label : Option (List ℕ)) where
+  -- what the words ask for is done, on what a reader has
+  pub lines_end : (asked : Asked) (at : Bool) (reader before after said_before said_after : Option (List ℕ)) (status : ℕ) → at ≡ terminals.error
+      → IsCommandLine Unseen asked words → EndsAsked label at terminals.output asked reader before after said_before said_after status
+      → EndsInputOf words terminals label reader before after said_before said_after status
+  lines_end asked at reader before after said_before said_after status is_at is_line ends =
+      let P : Bool → Type 0 = λ b. EndsAsked label b terminals.output asked reader before after said_before said_after status in
+      inl (Unseen, asked, reader, is_line, known_itself reader, subst P is_at ends)
+
+  pub looked_at : (sight : Sight) (asked : Asked) (at : Bool) (reader known before after said_before said_after : Option (List ℕ)) (status : ℕ)
+      → at ≡ terminals.error → known ≡ reader → IsCommandLine sight asked words
+      → EndsAsked label at terminals.output asked known before after said_before said_after status
+      → EndsInputOf words terminals label reader before after said_before said_after status
+  looked_at sight asked at reader known before after said_before said_after status is_at is_known is_line ends =
+      let P : Bool → Type 0 = λ b. EndsAsked label b terminals.output asked known before after said_before said_after status in
+      let Q : Option (List ℕ) → Type 0 = λ r. EndsAsked label terminals.error terminals.output asked r before after said_before said_after status in
+      inl (sight, asked, reader, is_line, known_itself reader, subst Q is_known (subst P is_at ends))
+
+  pub misused : (sight : Sight) (reader before after said_before said_after : Option (List ℕ)) (status : ℕ)
+      → EndsMisuse sight words before after said_before said_after status
+      → EndsInputOf words terminals label reader before after said_before said_after status
+  misused sight reader before after said_before said_after status ends = inr (inl (sight, ends))
+
+  pub not_read : (reader output said_before said_after : Option (List ℕ)) (status : ℕ) → status ≡ 3 → SaysSome said_before said_after
+      → EndsInputOf words terminals label reader output output said_before said_after status
+  not_read reader output said_before said_after status is_status said = inr (inr (is_status, refl, said))
+
+  -- what is so of what was read and what is left is so of the whole
+  known_more : (reader rest : Option (List ℕ)) (bytes : List ℕ) → Consumes reader rest bytes → (known : Option (List ℕ))
+      → IsKnownOf (prepend_known bytes rest) known → IsKnownOf reader known
+  known_more None rest bytes consumed known is_known = tt
+  known_more (Some xs) None bytes consumed known is_known = absurd consumed
+  known_more (Some xs) (Some ys) bytes consumed known is_known = is_known ∙ ap Some (sym consumed)
+
+  pub read_again : (reader rest before after said_before said_after : Option (List ℕ)) (bytes : List ℕ) (status : ℕ) → Consumes reader rest bytes
+      → EndsInputOf words terminals label (prepend_known bytes rest) before after said_before said_after status
+      → EndsInputOf words terminals label reader before after said_before said_after status
+  read_again reader rest before after said_before said_after bytes status consumed (inl (sight, asked, known, is_line, is_known, ends)) =
+      inl (sight, asked, known, is_line, known_more reader rest bytes consumed known is_known, ends)
+  read_again reader rest before after said_before said_after bytes status consumed (inr other) = inr other
+
+  pub read_ends : (reader before after said_before said_after : Option (List ℕ)) (status : ℕ)
+      → EndsInputOf words terminals label reader before after said_before said_after status
+      → EndsFile words terminals label before after said_before said_after status
+  read_ends reader before after said_before said_after status ends = (reader, ends)
+
+  pub unread_ends : (output said_before said_after : Option (List ℕ)) (status : ℕ) → status ≡ 3 → SaysSome said_before said_after
+      → EndsFile words terminals label output output said_before said_after status
+  unread_ends output said_before said_after status is_status said = (None, inr (inr (is_status, refl, said)))
+
+-- the same, where the words, the terminals and the label are known by other names
+pub file_read : (words others : List Text) (terminals others_terminals : Terminals) (label others_label : Option (List ℕ))
+    (reader before after said_before said_after : Option (List ℕ)) (status : ℕ) → others ≡ words → others_terminals ≡ terminals → others_label ≡ label
+    → EndsInputOf others others_terminals others_label reader before after said_before said_after status
+    → EndsFile words terminals label before after said_before said_after status
+file_read words others terminals others_terminals label others_label reader before after said_before said_after status same_words same_terminals same_label ends =
+    let P : List Text → Type 0 = λ w. EndsInputOf w others_terminals others_label reader before after said_before said_after status in
+    let Q : Terminals → Type 0 = λ t. EndsInputOf words t others_label reader before after said_before said_after status in
+    let R : Option (List ℕ) → Type 0 = λ l. EndsInputOf words terminals l reader before after said_before said_after status in
+    (reader, subst R same_label (subst Q same_terminals (subst P same_words ends)))
+
+-- one file more
+pub each_more : (words : List Text) (terminals : Terminals) (several : Bool) (names : List Text) (name : Text)
+    (before between after said_before said said_after : Option (List ℕ)) (worst so_far one : ℕ)
+    → EndEach words terminals several names before between said_before said worst so_far
+    → EndsFile words terminals (label_of several name) between after said said_after one
+    → EndEach words terminals several (names ++ name ∷ []) before after said_before said_after worst (worse so_far one)
+unfolding EndEach
+each_more words terminals several [] name before between after said_before said said_after worst so_far one (same, same_said, is_worst) ends =
+    let P : Option (List ℕ) → Type 0 = λ b. EndsFile words terminals (label_of several name) b after said said_after one in
+    let first = subst P same ends in
+    let Q : Option (List ℕ) → Type 0 = λ b. EndsFile words terminals (label_of several name) before after b said_after one in
+    (after, said_after, one, subst Q same_said first, (refl, refl, ap (λ w. worse w one) is_worst))
+each_more words terminals several (first ∷ names) name before between after said_before said said_after worst so_far one (b, s, o, begins, further) ends =
+    (b, s, o, begins, each_more words terminals several names name b between after s said said_after (worse worst o) so_far one further ends)
+
+pub each_none : (words : List Text) (terminals : Terminals) (several : Bool) (output said : Option (List ℕ)) (worst : ℕ)
+    → EndEach words terminals several [] output output said said worst worst
+unfolding EndEach
+each_none words terminals several output said worst = (refl, refl, refl)
+
+-- what was done over the files that some words name, up to those that the rest of the words name
+module _ (words : List Text) (terminals : Terminals) (several : Bool) (further : List Text) where
+  abbrev pub SoFar : List Text → Option (List ℕ) → Option (List ℕ) → Option (List ℕ) → Option (List ℕ) → ℕ → Type 0
+  SoFar rest before now said_before said_now worst =
+      (files : List Text) × EndEach words terminals several files before now said_before said_now 0 worst
+      × ((later : List Text) → AreFiles false rest later → AreFiles false further (files ++ later))
+
+  pub so_far_none : (output said : Option (List ℕ)) → SoFar further output output said said 0
+  so_far_none output said = ([], each_none words terminals several output said 0, λ later are. are)
+
+  pub so_far_more : (rest after_name : List Text) (name : Text) (before now after said_before said_now said_after : Option (List ℕ)) (worst one : ℕ)
+      → SoFar rest before now said_before said_now worst → EndsFile words terminals (label_of several name) now after said_now said_after one
+      → ((later : List Text) → AreFiles false after_name later → AreFiles false rest (name ∷ later))
+      → SoFar after_name before after said_before said_after (worse worst one)
+  so_far_more rest after_name name before now after said_before said_now said_after worst one (files, each, are) ends next =
+      let P : List Text → List Text → Type 0 = λ later all. AreFiles false further all in (
+        files ++ name ∷ [],
+        each_more words terminals several files name before now after said_before said_now said_after 0 worst one each ends,
+        λ later are_later. subst (P later) (sym (append_assoc files (name ∷ []) later)) (are (name ∷ later) (next later are_later)),
+      )
+
+  pub so_far_all : (rest : List Text) (before after said_before said_after : Option (List ℕ)) (status : ℕ)
+      → SoFar rest before after said_before said_after status → AreFiles false rest []
+      → EndAll words terminals further before after said_before said_after status
+  so_far_all rest before after said_before said_after status (files, each, are) none =
+      let P : List Text → Type 0 = λ all. AreFiles false further all in
+      (files, several, subst P (append-nil files) (are [] none), each)
+
+-- what all that was done over files comes to
+module _ (words : List Text) (terminals : Terminals) (further : List Text) (before after said_before said_after : Option (List ℕ)) (status : ℕ) where
+  pub each_ends : EndAll words terminals further before after said_before said_after status
+      → EndsFiles words terminals further before after said_before said_after status
+  each_ends all = inl all
+
+  pub misuse_ends : EndsMisuse Unseen words before after said_before said_after status
+      → EndsFiles words terminals further before after said_before said_after status
+  misuse_ends misuse = inr (inl misuse)
+
+pub several_ends : (words : List Text) (terminals : Terminals) (further : List Text) (output said_before said_after : Option (List ℕ)) (status : ℕ)
+    (sight : Sight) (asked : Asked) → IsCommandLine sight asked words → IsOfOne asked → status ≡ 2 → SaysSome said_before said_after
+    → EndsFiles words terminals further output output said_before said_after status
+several_ends words terminals further output said_before said_after status sight asked is_line of_one is_status said =
+    inr (inr (sight, asked, is_line, of_one, is_status, refl, said))
+
+-- the bytes that were read, and those that the reader still has
+pub chain_known : (bytes : List ℕ) (rest : Option (List ℕ)) → option_append (Some bytes) rest ≡ prepend_known bytes rest
+chain_known bytes None = refl
+chain_known bytes (Some ys) = refl

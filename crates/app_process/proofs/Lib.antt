@@ -1,0 +1,9 @@
+pub mod SaidLaws
+pub mod FailLaws
+pub mod EndLaws
+pub mod PageLaws
+pub mod AskedLaws
+pub mod FileLaws
+pub mod FewLaws
+pub mod UsageLaws
+pub mod ReadLaws

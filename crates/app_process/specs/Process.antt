@@ -1,0 +1,129 @@
+-- What one run of the process does: by its words, what is known of its input, and what is known of its output and of standard error before
+-- and after it; and its exit status. Text is bytes.
+use Rattle.std.specs.Prelude.{◌≡◌, ◌≢◌, ◌⊎◌, ⊤, ℕ, List, [], ◌∷◌, Bool, true, false, Option, Some, None, IfSome}
+use Rattle.clap.specs.Words.{Text, fault_of}
+use Rattle.app_command_line.specs.CommandLine.{AsksNothing, IsCommandLine, IsUsageFor, command_line}
+use Rattle.app_command_line.specs.declared.coloring.Coloring.{Coloring}
+use Rattle.app_command_line.specs.declared.coloring.Coloring.TheVariants.{Auto, Always, Never}
+use Rattle.app_command_line.specs.declared.detail.Detail.{Detail}
+use Rattle.app_command_line.specs.declared.manner.Asked.{Asked}
+use Rattle.app_command_line.specs.declared.order.Task.TheVariants.{OfPage}
+use Rattle.app_command_line.specs.declared.page.Page.{Page}
+use Rattle.app_command_line.specs.Options.{AreFiles}
+use Rattle.app_command_line.specs.declared.order.Usage.{Usage}
+use Rattle.app_command_line.specs.declared.sight.Sight.{Sight}
+use Rattle.app_command_line.specs.declared.sight.Sight.TheVariants.{Unseen}
+use Rattle.app_process.specs.declared.terminals.Terminals.{Terminals}
+use Rattle.app_process.specs.Dressing.{is_plain, plainly}
+use Rattle.app_process.specs.Endings.{EndsTask}
+use Rattle.app_process.specs.Saying.{Known, SaysSome}
+use Rattle.app_process.specs.Statuses.{worse}
+use Rattle.app_process.specs.Usages.{EndsUsage}
+
+-- whether answers are coloured: where no colour is named, only on a terminal
+abbrev pub IsPainted : Coloring → Bool → Bool → Type 0
+IsPainted Always at_terminal painted = painted ≡ true
+IsPainted Never at_terminal painted = painted ≡ false
+IsPainted Auto at_terminal painted = painted ≡ true → at_terminal ≡ true
+
+module _ (label : Option (List ℕ)) (said_at_terminal shown_at_terminal : Bool) where
+  -- the answer goes to the output. Where its lines are dressed, with a label or with colours, no more is known of it
+  abbrev pub GoesToOutput : Asked → Known → Known → Known → Known → Known → ℕ → Type 0
+  GoesToOutput asked reader before after said_before said_after status =
+      (painted : Bool) × IsPainted asked.manner.coloring shown_at_terminal painted
+      × EndsTask label said_at_terminal asked.task asked.manner reader (plainly (is_plain label painted) before) (plainly (is_plain label painted) after)
+      said_before said_after status
+
+  -- the answer goes to a file, where there is one, and the output stays as it is
+  pub record GoesToFile (asked : Asked) (reader before after said_before said_after : Known) (status : ℕ) : Type 0 where
+    pub answer : Known
+    pub said : Known
+    pub answered : ℕ
+    pub ends : EndsTask label said_at_terminal asked.task asked.manner reader (Some []) answer said_before said answered
+    pub output : after ≡ before
+    pub unsaved : answered ≢ 0 → (status ≡ answered) × (said_after ≡ said)
+    pub saved : answered ≡ 0 → ((status ≡ 0) × (said_after ≡ said)) ⊎ ((status ≡ 3) × SaysSome said said_after)
+
+  -- what is asked for is done
+  abbrev pub EndsAsked : Asked → Known → Known → Known → Known → Known → ℕ → Type 0
+  EndsAsked asked reader before after said_before said_after status =
+      ((asked.manner.to_file ≡ false) × GoesToOutput asked reader before after said_before said_after status)
+      ⊎ ((asked.manner.to_file ≡ true) × GoesToFile asked reader before after said_before said_after status)
+
+-- words that ask for nothing on an input that looks so: what is said of them
+abbrev pub EndsMisuse : Sight → List Text → Known → Known → Known → Known → ℕ → Type 0
+EndsMisuse sight words before after said_before said_after status =
+    (usage : Usage) × AsksNothing sight words × IsUsageFor (fault_of command_line words) words usage
+    × EndsUsage usage before after said_before said_after status
+
+-- a run whose words name no file: what they ask for is done, on what the input's reader has; or what is wrong with them is said
+abbrev pub EndsWords : List Text → Terminals → Known → Known → Known → Known → Known → ℕ → Type 0
+EndsWords words terminals reader before after said_before said_after status =
+    ((asked : Asked) × IsCommandLine Unseen asked words × EndsAsked None terminals.error terminals.output asked reader before after said_before said_after status)
+    ⊎ EndsMisuse Unseen words before after said_before said_after status
+
+-- what is known of the input of a file: what its reader tells, where it tells its bytes
+abbrev pub IsKnownOf : Known → Known → Type 0
+IsKnownOf reader known = IfSome reader (λ bytes. known ≡ Some bytes)
+
+module _ (words : List Text) (terminals : Terminals) (label : Option (List ℕ)) where
+  -- an input among files: what the words ask for on an input that looks as it does is done; or they ask for nothing on it, which is said; or it
+  -- can't be read, which is said
+  abbrev pub EndsInputOf : Known → Known → Known → Known → Known → ℕ → Type 0
+  EndsInputOf reader before after said_before said_after status =
+      ((sight : Sight) × (asked : Asked) × (known : Known) × IsCommandLine sight asked words × IsKnownOf reader known
+      × EndsAsked label terminals.error terminals.output asked known before after said_before said_after status)
+      ⊎ (((sight : Sight) × EndsMisuse sight words before after said_before said_after status)
+      ⊎ ((status ≡ 3) × (after ≡ before) × SaysSome said_before said_after))
+
+  -- a file, of whose bytes no contract tells
+  abbrev pub EndsFile : Known → Known → Known → Known → ℕ → Type 0
+  EndsFile before after said_before said_after status = (reader : Known) × EndsInputOf reader before after said_before said_after status
+
+-- the name of a file stands before its lines where there are several
+abbrev pub label_of : Bool → Text → Option (List ℕ)
+label_of false name = None
+label_of true name = Some name
+
+-- files, one after the other: the status is the worst of theirs
+unfoldable pub EndEach : List Text → Terminals → Bool → List Text → Known → Known → Known → Known → ℕ → ℕ → Type 0
+EndEach words terminals several [] before after said_before said_after worst status =
+    (after ≡ before) × (said_after ≡ said_before) × (status ≡ worst)
+EndEach words terminals several (name ∷ names) before after said_before said_after worst status =
+    (between : Known) × (said : Known) × (one : ℕ)
+    × EndsFile words terminals (label_of several name) before between said_before said one
+    × EndEach words terminals several names between after said said_after (worse worst one) status
+
+-- the files that some words name
+abbrev pub EndAll : List Text → Terminals → List Text → Known → Known → Known → Known → ℕ → Type 0
+EndAll words terminals further before after said_before said_after status =
+    (files : List Text) × (several : Bool) × AreFiles false further files
+    × EndEach words terminals several files before after said_before said_after 0 status
+
+-- an answer that goes to a file or is a page is of one input
+abbrev pub IsOfOne : Asked → Type 0
+IsOfOne asked = (asked.manner.to_file ≡ true) ⊎ ((page : Page) × (detail : Detail) × (asked.task ≡ OfPage page detail))
+
+-- a run whose words name files: each is carried out; or the words ask for nothing, or for one answer of several files, which is said
+abbrev pub EndsFiles : List Text → Terminals → List Text → Known → Known → Known → Known → ℕ → Type 0
+EndsFiles words terminals further before after said_before said_after status =
+    EndAll words terminals further before after said_before said_after status
+    ⊎ (EndsMisuse Unseen words before after said_before said_after status
+    ⊎ ((sight : Sight) × (asked : Asked) × IsCommandLine sight asked words × IsOfOne asked
+    × (status ≡ 2) × (after ≡ before) × SaysSome said_before said_after))
+
+-- words that name no file
+abbrev pub NamesNoFile : List Text → Type 0
+NamesNoFile (program ∷ word ∷ further) = AreFiles false further []
+NamesNoFile _ = ⊤
+
+-- the words after that of a command
+abbrev pub IsAfterCommand : List Text → List Text → Type 0
+IsAfterCommand (program ∷ word ∷ rest) further = further ≡ rest
+IsAfterCommand _ further = ⊥
+
+-- one run of the process: on the files that its words name, or on what the input's reader has
+abbrev pub EndsRun : List Text → Terminals → Known → Known → Known → Known → Known → ℕ → Type 0
+EndsRun words terminals reader before after said_before said_after status =
+    (NamesNoFile words × EndsWords words terminals reader before after said_before said_after status)
+    ⊎ ((further : List Text) × IsAfterCommand words further × EndsFiles words terminals further before after said_before said_after status)
