@@ -136,6 +136,34 @@ class Browser:
             raise BrowserError(told.get("exception", {}).get("description") or told["text"])
         return reply["result"].get("value")
 
+    def run_in_frame(self, expression):
+        """The value of an expression in the page's one frame, which may have a process of its own."""
+        frames = [it for it in self.ask("Target.getTargets")["targetInfos"] if it["type"] == "iframe"]
+        if frames:
+            session, self.session = self.session, self.ask("Target.attachToTarget", targetId=frames[-1]["targetId"], flatten=True)["sessionId"]
+            try:
+                return self.run(expression)
+            finally:
+                self.ask("Runtime.disable")
+                inner, self.session = self.session, session
+                self.ask("Target.detachFromTarget", sessionId=inner)
+        frame = self.ask("Page.getFrameTree")["frameTree"]["childFrames"][0]["frame"]["id"]
+        world = self.ask("Page.createIsolatedWorld", frameId=frame)["executionContextId"]
+        reply = self.ask("Runtime.evaluate", expression=expression, contextId=world, returnByValue=True)
+        if "exceptionDetails" in reply:
+            raise BrowserError(reply["exceptionDetails"]["text"])
+        return reply["result"].get("value")
+
+    def put_file(self, selector, path):
+        """Puts a file into an input, as its reader picks it."""
+        root = self.ask("DOM.getDocument", depth=0)["root"]["nodeId"]
+        node = self.ask("DOM.querySelector", nodeId=root, selector=selector)["nodeId"]
+        self.ask("DOM.setFileInputFiles", nodeId=node, files=[str(path)])
+
+    def save_to(self, folder):
+        """Has downloads go to a folder."""
+        self.ask("Browser.setDownloadBehavior", behavior="allow", downloadPath=str(folder))
+
     def size(self, width, height, scale=1):
         self.ask("Emulation.setDeviceMetricsOverride", width=width, height=height, deviceScaleFactor=scale, mobile=False)
 

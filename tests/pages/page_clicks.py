@@ -54,7 +54,7 @@ def write(room, name, text):
 
 def head_of(page):
     """How the headline begins, by the verdicts."""
-    answers = [answer for _, answer, _ in json.loads(page.report)[0]]
+    answers = [entry[1] for entry in json.loads(page.report)[0]]
     return HEADS[answers[0]] if len(set(answers)) == 1 else None
 
 
@@ -73,9 +73,9 @@ def open_faults(window, room, page, widths):
         head, due = text_of(window, "#headline"), head_of(page)
         yield f"{name}: the headline is {head!r}", (head == due) if due else head != ""
         cards = window.run(CARDS)
-        lines = [f"{answer} {criterion} {answer}" for criterion, answer, _ in reasons]
+        lines = [f"{answer} {criterion} {answer}" for criterion, answer, *_ in reasons]
         yield f"{name}: the cards are {cards}", len(cards) == 3 and all(card.startswith(line) for card, line in zip(cards, lines))
-        is_drawn = any(answer == "no" and isinstance(shown, list) for _, answer, shown in reasons)
+        is_drawn = any(answer == "no" and isinstance(shown, list) for _, answer, shown, *_ in reasons)
         yield f"{name}: the picture", not is_drawn or window.run("document.querySelectorAll('#picture svg .box').length") > 0
         yield f"{name}: texts reach out of the picture", window.run(REACHING) == 0
         yield f"{name}: the buttons of the picture", window.run(ZOOMABLE) == window.run("document.querySelector('#picture svg') !== null")
