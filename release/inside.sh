@@ -1,9 +1,11 @@
 #!/usr/bin/env bash
 # Runs in the clean root of test.sh: installs one package by the lines of README.md, and tries it.
 #
-#     bash inside.sh NAME VERSION        # NAME is tarball, deb or wheel; /given has the packages, the tests and install.NAME
+#     bash inside.sh NAME VERSION MACHINE    # NAME is tarball, deb or wheel; /given has the packages, the tests and install.NAME
+#
+# MACHINE is the processor of the package. Where it is another one than that of this machine, the kernel has an emulator run the program.
 set -uo pipefail
-NAME=$1 VERSION=$2
+NAME=$1 VERSION=$2 MACHINE=$3
 export HOME=/root LC_ALL=C.UTF-8 DEBIAN_FRONTEND=noninteractive
 PASSED=0 FAILED=0 SKIPPED=0
 
@@ -20,6 +22,18 @@ IS_INSTALLED=''
 exec 3>&1
 trap '[ -n "$IS_INSTALLED" ] || { cat /tmp/install.log; echo "$NAME: not installed"; echo "0 passed, 1 failed"; } >&3' EXIT
 set -e
+IS_FOREIGN='' CC=cc
+if [ "$MACHINE" != "$(uname -m)" ]; then IS_FOREIGN=yes CC=$MACHINE-linux-gnu-gcc; fi
+# pip installs a wheel for another machine in a folder of its own alone, and with its word that it fits.
+if [ -n "$IS_FOREIGN" ] && [ "$NAME" = wheel ]; then
+    cat > /given/install.wheel <<'END'
+python3 -m venv tools
+PLATFORM=$(ls *.whl | sed 's/.*-\(manylinux_.*\)\.whl/\1/')
+tools/bin/pip install --no-deps --only-binary=:all: --platform "$PLATFORM" --target judge ./causal_judge-*.whl
+export PATH="$PWD/judge/bin:$PATH" PYTHONPATH="$PWD/judge" MANPATH="$PWD/judge/share/man:"
+cd judge/share/doc/causal-judge
+END
+fi
 # shellcheck source=/dev/null
 . "/given/install.$NAME" > /tmp/install.log 2>&1
 set +e
@@ -28,12 +42,12 @@ DOC=$PWD
 cd /root/here || exit 1
 
 case $NAME in
-    tarball) BASE=$(echo /root/here/causal_judge-*-x86_64-linux) ;;
+    tarball) BASE=$(echo /root/here/causal_judge-*-linux) ;;
     deb) BASE=/usr ;;
     wheel) BASE=/root/here/judge ;;
 esac
 LIB=$BASE/lib
-[ "$NAME" != deb ] || LIB=/usr/lib/x86_64-linux-gnu
+[ "$NAME" != deb ] || LIB=/usr/lib/$MACHINE-linux-gnu
 export PKG_CONFIG_PATH=$LIB/pkgconfig
 
 no_kit() { ! command -v rt && [ ! -e /opt/rattle ]; }
@@ -69,7 +83,7 @@ compared() {
 
 c_sample() {
     # shellcheck disable=SC2046
-    cc -O2 "$DOC/embed/judge.c" $(pkg-config --cflags --libs causal_judge) -o judge_c && compared ./judge_c
+    $CC -O2 "$DOC/embed/judge.c" $(pkg-config --cflags --libs causal_judge) -o judge_c && compared ./judge_c
 }
 
 python_sample() {
@@ -141,9 +155,13 @@ else
     try "completion in bash" completes
     if [ -f "$LIB/libcausal_judge.a" ]; then
         try "the C sample" c_sample
-        try "the Python sample" python_sample
-        try_if "the Go sample" "go version" go_sample
-        try_if "the Rust sample" has_rust rust_sample
+        if [ -n "$IS_FOREIGN" ]; then
+            SKIPPED=$((SKIPPED + 3))
+        else
+            try "the Python sample" python_sample
+            try_if "the Go sample" "go version" go_sample
+            try_if "the Rust sample" has_rust rust_sample
+        fi
     else
         SKIPPED=$((SKIPPED + 4))
     fi

@@ -13,7 +13,7 @@ import pathlib
 import re
 import shutil
 
-COPIED = ("README.md", "LICENSE", "CHANGELOG.md", "CITATION.cff", "VERSION", "docs", "embed", "examples", "python")
+COPIED = ("README.md", "LICENSE", "CHANGELOG.md", "CITATION.cff", "VERSION", "docs", "embed", "examples", "node/README.md", "python")
 OF_SOURCE = (
     *("docs/DECISIONS.md", "docs/architecture.md", "docs/calls.md", "docs/trusted.md", "docs/wrong_bodies.md"),
     *("embed/compare.py", "embed/measure.c", "embed/measure.py", "embed/refuse.c", "embed/run.py"),

@@ -1,10 +1,11 @@
 #!/usr/bin/env python3
 """Makes a Python wheel that carries the program and the package causal_judge, with the same bytes each time.
 
-    python3 release/wheel.py PROGRAM PACKAGE DATA VERSION GLIBC_MINOR OUTDIR
+    python3 release/wheel.py PROGRAM PACKAGE DATA VERSION GLIBC_MINOR MACHINE OUTDIR
 
 PACKAGE is the folder of the package, and DATA one whose files are installed below the prefix of the environment. GLIBC_MINOR is the least
-minor version of the C library that the program wants, as 34. Times are those of SOURCE_DATE_EPOCH, and files are sorted.
+minor version of the C library that the program wants, as 34, and MACHINE its processor, x86_64 or aarch64. Times are those of
+SOURCE_DATE_EPOCH, and files are sorted.
 """
 
 import base64
@@ -59,8 +60,8 @@ def files_of(program, package, data, version, tag):
 
 def main():
     program, package, data = map(pathlib.Path, sys.argv[1:4])
-    version, minor, out = sys.argv[4:]
-    tag = f"py3-none-manylinux_2_{minor}_x86_64"
+    version, minor, machine, out = sys.argv[4:]
+    tag = f"py3-none-manylinux_2_{minor}_{machine}"
     files = sorted(files_of(program, package, data, version, tag))
     name = f"{NAME}-{version}.dist-info/RECORD"
     rows = [f"{path},{record(content)},{len(content)}" for path, content, _ in files] + [f"{name},,"]

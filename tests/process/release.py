@@ -9,8 +9,10 @@ file is not as in the commit. With the right mark it has to make packages.
 
 `release/build.sh --unproved` has to make packages whose names and BUILD files say so, and two builds in two folders have to give the same
 bytes. The Debian package has to depend on libc6 alone, to say the size of its files, and to have the Python package where Debian's Python
-finds it. The man pages have to say all that the help of each command says after its options. The completions have to name each command,
-and their shells have to read them without a fault. The pages have to name no file that their package lacks.
+finds it. With what release/wasm.sh and release/arm64/build.py leave, for which other files stand in here, it has to make the same packages
+for arm64, the page, the module and the package for Node, and their BUILD has to say that they were only built. Where either is of another
+commit, it has to refuse. The man pages have to say all that the help of each command says after its options. The completions have to name
+each command, and their shells have to read them without a fault. The pages have to name no file that their package lacks.
 
 What the machine lacks is named as skipped, with the line that installs it. The test takes about half a minute.
 """
@@ -44,6 +46,7 @@ TOOLS = {"git": "git", "help2man": "help2man", "dpkg-deb": "dpkg", "objdump": "b
 COMMITTER = ("-c", "user.name=nobody", "-c", "user.email=nobody@localhost", "-c", "commit.gpgsign=false", "-c", "core.hooksPath=/dev/null")
 APART_SECONDS = 1.2
 DOC = "share/doc/causal-judge/"
+ARM64 = ("causal_judge", "libcausal_judge.a", "libcausal_judge.so")
 OTHER_COMMIT, OTHER_SUM, GATE = "0" * 40, "0" * 64, "1 passed, 0 failed"
 SIGNS = {r"\(aq": "'", r"\(ga": "`", r"\(ha": "^", r"\(ti": "~", r"\-": "-", r"\&": "", r"\e": "\\"}
 DIST_PACKAGES = "./usr/lib/python3/dist-packages/"
@@ -68,9 +71,9 @@ class Clone(NamedTuple):
     program: pathlib.Path
     room: pathlib.Path
 
-    def build(self, out, *words, **how):
-        """Runs release/build.sh without the library, into a folder."""
-        words = [self.root / "release" / "build.sh", "--no-library", "--out", self.room / out, *words]
+    def build(self, out, *words, others=("--no-wasm", "--no-arm64"), **how):
+        """Runs release/build.sh without the library, into a folder, and without what is for other machines unless words say so."""
+        words = [self.root / "release" / "build.sh", "--no-library", "--out", self.room / out, *others, *words]
         how |= {"stdin": subprocess.DEVNULL, "stdout": subprocess.PIPE, "stderr": subprocess.STDOUT}
         return subprocess.run(words, check=False, text=True, errors="replace", **how)
 
@@ -224,6 +227,53 @@ def debian_python(clone, package):
         yield f"{name} is a script that runs", is_read and os.access(control / name, os.X_OK)
 
 
+def others_of(clone, commit, libraries="of the gate"):
+    """Folders as release/wasm.sh and release/arm64/build.py leave them at a commit, with other files in the place of what they make."""
+    wasm, arm64 = (pathlib.Path(tempfile.mkdtemp(dir=clone.room)) / name for name in ("wasm", "arm64"))
+    for folder, names, of in ((wasm, ("causal_judge.wasm", "causal_judge.html"), "library"), (arm64, ARM64, "proved causal_judge")):
+        folder.mkdir()
+        for name in names:
+            shutil.copy2(clone.program, folder / name)
+        (folder / "BUILD").write_text(f"commit {commit}\nlibraries {libraries}\n{of} logic=proved\n")
+    return ("--wasm", wasm, "--arm64", arm64)
+
+
+def for_others(clone):
+    """The packages for other machines: how they are named, and what BUILD says of them."""
+    commit = said_by("git", "-C", clone.root, "rev-parse", "HEAD").strip()
+    right, wrong, own = others_of(clone, commit), others_of(clone, OTHER_COMMIT), others_of(clone, commit, "of rt check: model_history")
+    for words, why in (
+        ((*right[:2], *wrong[2:]), "arm64 is not of this commit"),
+        ((*wrong[:2], *right[2:]), "wasm is not of this commit"),
+        ((*right[:2], *own[2:]), "arm64 was made of other libraries"),
+    ):
+        done = clone.build("refused", others=words)
+        yield f"refused: {why}", done.returncode != 0 and why in done.stdout and not clone.packages("refused")
+    done = clone.build("others", others=right)
+    if done.returncode != 0:
+        print(done.stdout, flush=True)
+    yield "packages for other machines are made", done.returncode == 0
+    if done.returncode != 0:
+        return
+    version, has_npm = (clone.root / "VERSION").read_text().strip(), bool(shutil.which("npm"))
+    due = {"causal_judge.html", "causal_judge.wasm", "BUILD", "SHA256SUMS", *([f"causal-judge-{version}.tgz"] if has_npm else [])}
+    due |= {f"causal-judge_{version}_{name}.deb" for name in ("amd64", "arm64")}
+    due |= {f"causal_judge-{version}-{name}-linux.tar.gz" for name in ("x86_64", "aarch64")}
+    names = {path.name for path in (clone.room / "others").iterdir()}
+    wheels = {name for name in names if re.fullmatch(rf"causal_judge-{version}-py3-none-manylinux_2_\d+_(x86_64|aarch64)\.whl", name)}
+    yield f"they are those of both machines: {sorted(names ^ due)}", len(wheels) == 2 and names == due | wheels
+    said = (clone.room / "others" / "BUILD").read_text()
+    lines = ("arm64 proof causal_judge logic=proved", "arm64 was only built: ", "module proof logic=proved", "module was only built: ")
+    for start in lines:
+        yield f"BUILD has the line {start}", re.search(f"^{start}", said, re.M)
+    (deb,) = (clone.room / "others").glob("*_arm64.deb")
+    yield "the Debian package is for arm64", said_by("dpkg-deb", "-f", deb, "Architecture").strip() == "arm64"
+    if has_npm:
+        with tarfile.open(clone.room / "others" / f"causal-judge-{version}.tgz") as archive:
+            packed_build = archive.extractfile("package/BUILD").read().decode()
+        yield "the package for Node has BUILD", packed_build == said
+
+
 def after_options(text):
     """The part of a help after its options."""
     return re.search(r"\nOptions:\n.*?\n\n(.*)", text, re.DOTALL)[1]
@@ -315,11 +365,11 @@ def main():
     given = with_program(argparse.ArgumentParser(description=__doc__, formatter_class=argparse.RawDescriptionHelpFormatter))
     for name in ("GIT_DIR", "GIT_WORK_TREE", "GIT_INDEX_FILE"):
         os.environ.pop(name, None)
-    program, parts = pathlib.Path(given.program[0]).resolve(), [refusals, made]
+    program, parts = pathlib.Path(given.program[0]).resolve(), [refusals, made, for_others]
     is_over, missing = missing_here()
     if not is_over and needs_more(program):
         missing.append("the packages: skipped: rt try built a program that needs libgcc_s, and rt ci builds one that does not")
-        parts.remove(made)
+        parts = [refusals]
     print(*missing, sep="\n", end="\n" if missing else "", flush=True)
     if is_over:
         end(0, 0, len(missing))
