@@ -40,6 +40,8 @@ INSTALLS = {
     "ar": "apt-get install binutils",
     "java": "apt-get install default-jdk-headless",
     "javac": "apt-get install default-jdk-headless",
+    "node": "apt-get install nodejs",
+    "wasm-opt": "apt-get install binaryen",
 }
 
 
@@ -133,6 +135,8 @@ PARTS = (
     Part("streams", lambda given: given.of("streams", "--steps", given.many(20, 50))),
     Part("stream_calls", lambda given: given.of("stream_calls"), ("cc",)),
     Part("release", lambda given: given.of("release")),
+    Part("node_package", lambda given: given.of("node_package")),
+    Part("arm64_functions", lambda given: ["tests/process/arm64_functions.py"]),
     Part("refused_memory", lambda given: given.of("refused_memory"), ("cc",), is_long_unproved=True),
     Part(
         "library",
@@ -140,6 +144,13 @@ PARTS = (
         ("cc", "ar"),
         lambda given: ARCHIVE,
         "./check --library builds it",
+    ),
+    Part(
+        "wasm_module",
+        lambda given: given.of("wasm_module", "1", given.many(400, 5_000), *given.longer()),
+        ("node", "wasm-opt", "cc", "ar"),
+        lambda given: ROOT / "crates" / "app_pages" / "out" / "rlib" / "app_pages.rlib" / "format",
+        "rt ci leaves it",
     ),
 )
 

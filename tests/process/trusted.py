@@ -53,7 +53,7 @@ PROMISES = (
     Promise(
         "judge",
         "`judge` of a memory: its lines",
-        (f"{RUN}/answered/end/unwritten", "app_engine::laws report_is_on_the_history_of_its_input distinct_values_are_decided"),
+        (f"{RUN}/memory/end/unwritten",),
         MEMORY,
     ),
     Promise(
@@ -96,6 +96,7 @@ PROMISES = (
         "statuses, lines of errors, `--why`",
         ("app_engine::failure status_of fault_line", "app_logs::failure status_of_error error_lines", "show_refusals::reason reason_for"),
     ),
+    Promise("process", "the process: its output, what it says beside, its status", ("app_process::program status_of_words",)),
     Promise(
         "reads",
         "how often an input is read",
@@ -537,9 +538,10 @@ def head(found):
     for what, keys, whole, contract in (("memory", JUDGE, "run", "app_engine::run"), ("log", LOGS, "follow", "app_logs::follow_log")):
         promise = next(promise for promise in PROMISES if promise.key == keys[0])
         named = len(found.reached[keys[0]].lines - reached_by(promise, UNKNOWN)[0].lines)
+        only = f", of which {named} say only which operation an `unknown` names" if named else ""
         texts.append(
-            f"- `judge` of a {what}: {found.size(keys[0])}, of which {named} say only which operation an `unknown` names; with what is refused,"
-            f" {found.size(*keys)}. `{contract}` states all orders in one contract, which takes {found.size(whole)}."
+            f"- `judge` of a {what}: {found.size(keys[0])}{only}; with what is refused, {found.size(*keys)}."
+            f" `{contract}` states all orders in one contract, which takes {found.size(whole)}."
         )
     return "\n".join(textwrap.fill(text, WIDTH, subsequent_indent="  ") for text in texts)
 
