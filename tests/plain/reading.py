@@ -1,7 +1,7 @@
 """Reads the inputs of `judge`, `check`, `refute` and `drive` in a plain way, and refuses them in the order in which they are read.
 
-It knows the form of a report too, and nothing of the program: what it says follows docs/definitions.md and the table of refusals in
-docs/guide.md. With `--long` a memory alone is read, without a limit on sessions, on operations and on the entries of a table.
+It knows the form of a report too, and nothing of the program: what it says follows docs/definitions.md and the rows of
+docs/refusals.md. With `--long` a memory alone is read, without a limit on sessions, on operations and on the entries of a table.
 """
 
 import math
