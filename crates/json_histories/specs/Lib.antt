@@ -4,6 +4,7 @@ pub mod Form
 pub mod Json
 pub mod Laws
 pub mod LoneForm
+pub mod Memories
 pub mod ObjectNames
 pub mod Places
 pub mod QueueForm
