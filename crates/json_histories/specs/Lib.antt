@@ -13,4 +13,5 @@ pub mod Reads
 pub mod Refusals
 pub mod RegisterForm
 pub mod SetForm
+pub mod Spelled
 pub mod Spelling
