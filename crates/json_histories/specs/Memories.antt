@@ -1,5 +1,5 @@
 -- Which histories are those of memories.
-use Rattle.std.specs.Prelude.{⊤, ⊥}
+use Rattle.std.specs.Prelude.{⊤}
 use Rattle.json_histories.specs.declared.any_history.AnyHistory.{AnyHistory}
 use Rattle.json_histories.specs.declared.any_history.AnyHistory.TheVariants as histories
 
