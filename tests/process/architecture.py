@@ -27,7 +27,7 @@ LAYERS = {
     "log": "logs of the events of clients, and the histories that they represent",
     "show": "what is found, in words, pictures and pages",
     "live": "histories while they happen: recorder, seals, replicas, driver, desk, scripts",
-    "app": "the program: command line, findings, explanations, engine, logs, pages, process",
+    "app": "the program: orders, command line, findings, explanations, engine, logs, pages, process",
     "causal": "what is built: the program and the library",
     "test": "tests of calls, and their assertions",
 }

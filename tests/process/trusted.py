@@ -90,7 +90,7 @@ PROMISES = (
     Promise("events", "`events`", (LOG,), "LogOrder.WriteHistory LogOrder.WriteNames LogOrder.WriteNotes"),
     Promise("replay", "`replay`", (INPUT, "live_script::replaying replay", "live_script::reader read_script"), "Order.Replay"),
     Promise("drive", "`drive`", (INPUT, "app_engine::driving drive_with", "live_driver::driving drive"), "Order.Drive"),
-    Promise("words", "the words of a command line", ("app_command_line::order command_of",)),
+    Promise("words", "the words of a command line", ("app_command_line::command command_of",)),
     Promise(
         "errors",
         "statuses, lines of errors, `--why`",

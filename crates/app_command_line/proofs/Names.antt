@@ -10,8 +10,9 @@ use Rattle.clap.specs.Words.{Text}
 use Rattle.cert_check.specs.declared.criterion.Criterion.{Criterion}
 use Rattle.cert_check.specs.CriterionNames.{name_of}
 use Rattle.cert_check.proofs.CriterionNames.{named_again, named_of, one_name}
-use Rattle.app_command_line.specs.declared.expected.Expected.{Expected}
-use Rattle.app_command_line.specs.Expected.{AddEach, AddsName, Lists, and_expected, expecting_nothing, expects, parts, with_expected}
+use Rattle.app_orders.specs.declared.expected.Expected.{Expected}
+use Rattle.app_command_line.specs.Expected.{AddEach, AddsName, Lists, and_expected, expects, parts, with_expected}
+use Rattle.app_orders.specs.Expected.{expecting_nothing}
 
 pub name_added : (before : Expected) (c : Criterion) (name : Text) (r : Option Expected) → name ≡ name_of c → r ≡ and_expected before c
     → MatchOption r ((after : Expected) → ¬ AddsName before name after) (AddsName before name)

@@ -4,7 +4,7 @@ use Rattle.std.proofs.lemmas.List.{take_all}
 use Rattle.std.proofs.lemmas.Option.{same_Some}
 use Rattle.clap.specs.Words.{Text}
 use Rattle.std.specs.Prelude.{◌≢◌}
-use Rattle.app_command_line.specs.declared.manner.Asked.{Asked}
+use Rattle.app_orders.specs.declared.manner.Asked.{Asked}
 use Rattle.app_command_line.specs.declared.said.Said.{Said}
 use Rattle.app_command_line.specs.declared.settings.CommandName.{CommandName}
 use Rattle.app_command_line.specs.declared.settings.Setting.{Setting}

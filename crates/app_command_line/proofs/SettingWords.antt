@@ -7,11 +7,11 @@ use Rattle.std.specs.Str.Parse.{digits_value, without_leading_plus}
 use Rattle.clap.specs.Words.{Text}
 use Rattle.judge_workers.specs.Workers.{AreWorkers}
 use Rattle.model_history.specs.declared.limits.TheConstants.{MAX_SESSIONS}
-use Rattle.app_command_line.specs.declared.drive.TheConstants.{MAX_SEALS}
-use Rattle.app_command_line.specs.declared.drive.Store.TheVariants.{Causal, Lamport}
-use Rattle.app_command_line.specs.declared.coloring.Coloring.{Coloring}
-use Rattle.app_command_line.specs.declared.coloring.Coloring.TheVariants as colorings
-use Rattle.app_command_line.specs.declared.expected.Expected.{Expected}
+use Rattle.app_orders.specs.declared.drive.TheConstants.{MAX_SEALS}
+use Rattle.app_orders.specs.declared.drive.Store.TheVariants.{Causal, Lamport}
+use Rattle.app_orders.specs.declared.coloring.Coloring.{Coloring}
+use Rattle.app_orders.specs.declared.coloring.Coloring.TheVariants as colorings
+use Rattle.app_orders.specs.declared.expected.Expected.{Expected}
 use Rattle.app_command_line.specs.declared.settings.CommandName.{CommandName}
 use Rattle.app_command_line.specs.declared.settings.CommandName.TheVariants as commands
 use Rattle.app_command_line.specs.declared.settings.Setting.{Setting}

@@ -5,8 +5,8 @@ use Rattle.clap.specs.Words.{FailsBy, HasKind, IsAmong, Kinds, Text, kind_of}
 use Rattle.clap.specs.declared.Error.{Error}
 use Rattle.clap.specs.declared.error.kind.ErrorKind.{ErrorKind}
 use Rattle.clap.specs.declared.error.kind.ErrorKind.TheVariants.{DisplayHelp, DisplayVersion, OutOfMemory}
-use Rattle.app_command_line.specs.declared.order.Usage.{Usage}
-use Rattle.app_command_line.specs.declared.order.Usage.TheVariants.{Fault, Help, Memory}
+use Rattle.app_command_line.specs.declared.command.Usage.{Usage}
+use Rattle.app_command_line.specs.declared.command.Usage.TheVariants.{Fault, Help, Memory}
 use Rattle.app_command_line.specs.CommandLine.{IsFault, IsTopicUsage, IsUsageBy, IsUsageFor, IsUsageOf}
 use Rattle.app_command_line.specs.Shown.{AsksForTopic, IsHelpFor, IsTopicText, version_text}
 

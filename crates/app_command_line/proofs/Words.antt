@@ -2,7 +2,7 @@
 use Rattle.std.proofs.Common.{◌≡◌, refl, ◌<◌, ◌≤◌, ℕ, sym, List, [], ◌∷◌, ◌-◌, ◌∙◌, length, map, drop, take, get_or, ap, subst, arith, Option, MatchOption}
 use Rattle.std.proofs.lemmas.List.{take_all}
 use Rattle.clap.specs.Words.{Text}
-use Rattle.app_command_line.specs.declared.manner.Asked.{Asked}
+use Rattle.app_orders.specs.declared.manner.Asked.{Asked}
 use Rattle.app_command_line.specs.declared.sight.Sight.{Sight}
 use Rattle.std.specs.Prelude.{slice_get, option_map}
 use Rattle.std.proofs.lemmas.Option.{slice_get-map}

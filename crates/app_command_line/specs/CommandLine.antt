@@ -9,14 +9,14 @@ use Rattle.clap.specs.declared.error.kind.ErrorKind.{ErrorKind}
 use Rattle.clap.specs.declared.error.kind.ErrorKind.TheVariants.{DisplayHelp, DisplayVersion, OutOfMemory}
 use Rattle.judge_workers.specs.declared.limit.TheConstants.{MAX_WORKERS}
 use Rattle.app_command_line.specs.Options.{IsAsked}
-use Rattle.app_command_line.specs.declared.drive.TheConstants.{MAX_SEALS}
-use Rattle.app_command_line.specs.declared.listing.TheConstants.{MAX_LISTED}
+use Rattle.app_orders.specs.declared.drive.TheConstants.{MAX_SEALS}
+use Rattle.app_orders.specs.declared.listing.TheConstants.{MAX_LISTED}
 use Rattle.model_history.specs.declared.limits.TheConstants.{MAX_SESSIONS}
-use Rattle.app_command_line.specs.declared.log_order.TheConstants.{MAX_EVERY}
-use Rattle.app_command_line.specs.declared.manner.Asked.{Asked}
-use Rattle.app_command_line.specs.declared.manner.TheConstants.{MAX_LEAST_READS}
-use Rattle.app_command_line.specs.declared.order.Usage.{Usage}
-use Rattle.app_command_line.specs.declared.order.Usage.TheVariants.{Fault, Help, Memory}
+use Rattle.app_orders.specs.declared.log_order.TheConstants.{MAX_EVERY}
+use Rattle.app_orders.specs.declared.manner.Asked.{Asked}
+use Rattle.app_orders.specs.declared.manner.TheConstants.{MAX_LEAST_READS}
+use Rattle.app_command_line.specs.declared.command.Usage.{Usage}
+use Rattle.app_command_line.specs.declared.command.Usage.TheVariants.{Fault, Help, Memory}
 use Rattle.app_command_line.specs.declared.sight.Sight.{Sight}
 use Rattle.app_command_line.specs.Shown.{AsksForTopic, IsHelpFor, IsTopicText, version_text}
 

@@ -1,14 +1,12 @@
--- The criteria that are expected to be met, and the lists that name them. Text is bytes.
-use Rattle.std.specs.Prelude.{◌≡◌, ◌==◌, List, [], ◌∷◌, Option, Some, None, Bool, true, false, if◌then◌else◌}
+-- The lists that name the criteria that are expected to be met. Text is bytes.
+use Rattle.std.specs.Prelude.{◌≡◌, ◌==◌, List, [], ◌∷◌, Option, Some, None, Bool, true, if◌then◌else◌}
 use Rattle.std.specs.List.{slice_split}
 use Rattle.clap.specs.Words.{Text}
 use Rattle.cert_check.specs.declared.criterion.Criterion.{Criterion}
 use Rattle.cert_check.specs.declared.criterion.Criterion.TheVariants.{Cc, Cm, Ccv}
 use Rattle.cert_check.specs.CriterionNames.{name_of}
-use Rattle.app_command_line.specs.declared.expected.Expected.{Expected}
-
-abbrev pub expecting_nothing : Expected
-expecting_nothing = record { cc = false; cm = false; ccv = false }
+use Rattle.app_orders.specs.Expected.{expecting_nothing}
+use Rattle.app_orders.specs.declared.expected.Expected.{Expected}
 
 -- whether a criterion is expected, and what is expected with one more
 abbrev pub expects : Expected → Criterion → Bool

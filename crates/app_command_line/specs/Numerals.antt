@@ -2,9 +2,9 @@
 use Rattle.std.specs.Prelude.{◌≡◌, ◌≤◌, ℕ}
 use Rattle.std.specs.Str.Parse.{IsNumeral, digits_value, without_leading_plus}
 use Rattle.clap.specs.Words.{Text}
-use Rattle.app_command_line.specs.declared.listing.TheConstants.{MAX_LISTED}
-use Rattle.app_command_line.specs.declared.log_order.TheConstants.{MAX_EVERY}
-use Rattle.app_command_line.specs.declared.manner.TheConstants.{MAX_LEAST_READS}
+use Rattle.app_orders.specs.declared.listing.TheConstants.{MAX_LISTED}
+use Rattle.app_orders.specs.declared.log_order.TheConstants.{MAX_EVERY}
+use Rattle.app_orders.specs.declared.manner.TheConstants.{MAX_LEAST_READS}
 
 -- a text writes a number: decimal digits, and perhaps a plus before them
 abbrev pub Writes : Text → ℕ → Type 0

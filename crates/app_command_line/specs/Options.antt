@@ -6,38 +6,38 @@ use Rattle.judge_workers.specs.Workers.{AreWorkers}
 use Rattle.model_history.specs.declared.limits.TheConstants.{MAX_SESSIONS}
 use Rattle.live_replica.specs.declared.delivery.Delivery.{Delivery}
 use Rattle.live_replica.specs.declared.delivery.Delivery.TheVariants as deliveries
-use Rattle.app_command_line.specs.declared.coloring.Coloring.{Coloring}
-use Rattle.app_command_line.specs.declared.coloring.Coloring.TheVariants as colorings
-use Rattle.app_command_line.specs.declared.detail.Detail.{Detail}
-use Rattle.app_command_line.specs.declared.detail.Detail.TheVariants as details
-use Rattle.app_command_line.specs.declared.drive.Drive.{Drive}
-use Rattle.app_command_line.specs.declared.drive.Store.{Store}
-use Rattle.app_command_line.specs.declared.drive.Store.TheVariants.{Causal, Lamport}
-use Rattle.app_command_line.specs.declared.drive.TheConstants.{MAX_SEALS}
-use Rattle.app_command_line.specs.declared.form.Form.{Form}
-use Rattle.app_command_line.specs.declared.form.Form.TheVariants as forms
-use Rattle.app_command_line.specs.declared.form.LongForm.{LongForm}
-use Rattle.app_command_line.specs.declared.form.LongForm.TheVariants as long_forms
-use Rattle.app_command_line.specs.declared.form.ListForm.{ListForm}
-use Rattle.app_command_line.specs.declared.form.ListForm.TheVariants as list_forms
-use Rattle.app_command_line.specs.declared.listing.Listing.{Listing}
-use Rattle.app_command_line.specs.declared.judging.Judging.{Judging}
-use Rattle.app_command_line.specs.declared.line_judging.BlankLines.{BlankLines}
-use Rattle.app_command_line.specs.declared.line_judging.BlankLines.TheVariants as blank_lines
-use Rattle.app_command_line.specs.declared.line_judging.LineJudging.{LineJudging}
-use Rattle.app_command_line.specs.declared.log_order.LogJudging.{LogJudging}
-use Rattle.app_command_line.specs.declared.log_order.LogOrder.TheVariants as log_orders
-use Rattle.app_command_line.specs.declared.length.Length.{Length}
-use Rattle.app_command_line.specs.declared.length.Length.TheVariants as lengths
-use Rattle.app_command_line.specs.declared.manner.Asked.{Asked}
-use Rattle.app_command_line.specs.declared.manner.Manner.{Manner}
-use Rattle.app_command_line.specs.declared.order.Order.TheVariants as orders
-use Rattle.app_command_line.specs.declared.order.Task.{Task}
-use Rattle.app_command_line.specs.declared.order.Task.TheVariants.{OfInput, OfLog, OfPage}
-use Rattle.app_command_line.specs.declared.page.Page.{Page}
-use Rattle.app_command_line.specs.declared.page.PageOf.{PageOf}
-use Rattle.app_command_line.specs.declared.page.PageOf.TheVariants as pages
-use Rattle.app_command_line.specs.declared.page.TheConstants.{USUAL_LISTED}
+use Rattle.app_orders.specs.declared.coloring.Coloring.{Coloring}
+use Rattle.app_orders.specs.declared.coloring.Coloring.TheVariants as colorings
+use Rattle.app_orders.specs.declared.detail.Detail.{Detail}
+use Rattle.app_orders.specs.declared.detail.Detail.TheVariants as details
+use Rattle.app_orders.specs.declared.drive.Drive.{Drive}
+use Rattle.app_orders.specs.declared.drive.Store.{Store}
+use Rattle.app_orders.specs.declared.drive.Store.TheVariants.{Causal, Lamport}
+use Rattle.app_orders.specs.declared.drive.TheConstants.{MAX_SEALS}
+use Rattle.app_orders.specs.declared.form.Form.{Form}
+use Rattle.app_orders.specs.declared.form.Form.TheVariants as forms
+use Rattle.app_orders.specs.declared.form.LongForm.{LongForm}
+use Rattle.app_orders.specs.declared.form.LongForm.TheVariants as long_forms
+use Rattle.app_orders.specs.declared.form.ListForm.{ListForm}
+use Rattle.app_orders.specs.declared.form.ListForm.TheVariants as list_forms
+use Rattle.app_orders.specs.declared.listing.Listing.{Listing}
+use Rattle.app_orders.specs.declared.judging.Judging.{Judging}
+use Rattle.app_orders.specs.declared.line_judging.BlankLines.{BlankLines}
+use Rattle.app_orders.specs.declared.line_judging.BlankLines.TheVariants as blank_lines
+use Rattle.app_orders.specs.declared.line_judging.LineJudging.{LineJudging}
+use Rattle.app_orders.specs.declared.log_order.LogJudging.{LogJudging}
+use Rattle.app_orders.specs.declared.log_order.LogOrder.TheVariants as log_orders
+use Rattle.app_orders.specs.declared.length.Length.{Length}
+use Rattle.app_orders.specs.declared.length.Length.TheVariants as lengths
+use Rattle.app_orders.specs.declared.manner.Asked.{Asked}
+use Rattle.app_orders.specs.declared.manner.Manner.{Manner}
+use Rattle.app_orders.specs.declared.order.Order.TheVariants as orders
+use Rattle.app_orders.specs.declared.order.Task.{Task}
+use Rattle.app_orders.specs.declared.order.Task.TheVariants.{OfInput, OfLog, OfPage}
+use Rattle.app_orders.specs.declared.page.Page.{Page}
+use Rattle.app_orders.specs.declared.page.PageOf.{PageOf}
+use Rattle.app_orders.specs.declared.page.PageOf.TheVariants as pages
+use Rattle.app_orders.specs.declared.page.TheConstants.{USUAL_LISTED}
 use Rattle.app_command_line.specs.declared.said.Said.{Said}
 use Rattle.app_command_line.specs.declared.settings.CommandName.{CommandName}
 use Rattle.app_command_line.specs.declared.settings.CommandName.TheVariants as commands
@@ -45,7 +45,8 @@ use Rattle.app_command_line.specs.declared.settings.Setting.{Setting}
 use Rattle.app_command_line.specs.declared.settings.Setting.TheVariants as settings
 use Rattle.app_command_line.specs.declared.sight.Sight.{Sight}
 use Rattle.app_command_line.specs.declared.sight.Sight.TheVariants as sights
-use Rattle.app_command_line.specs.Expected.{Lists, expecting_nothing}
+use Rattle.app_command_line.specs.Expected.{Lists}
+use Rattle.app_orders.specs.Expected.{expecting_nothing}
 use Rattle.app_command_line.specs.Numerals.{IsEvery, IsLeast, IsListed, Writes}
 
 -- the word that names a command

@@ -5,11 +5,8 @@ ghost use Rattle.app_command_line.specs.CommandLine.{all, color, every, expect, 
 ghost use Rattle.app_command_line.specs.CommandLine.{number_option, output, progress, store, why, workers};
 ghost use Rattle.app_command_line.specs.Steps.Arguments.{rule_of_argument};
 
-use crate::drive::MAX_SEALS;
 use crate::help::{COLOR, EVERY, FILES, LEAST_READS, OUTPUT, PROGRESS, WHY};
-use crate::listing::MAX_LISTED;
-use crate::log_order::MAX_EVERY;
-use crate::manner::MAX_LEAST_READS;
+use app_orders::{MAX_EVERY, MAX_LEAST_READS, MAX_LISTED, MAX_SEALS};
 use clap::builder::ValueParser;
 use clap::{Arg, ArgAction};
 use judge_workers::MAX_WORKERS;

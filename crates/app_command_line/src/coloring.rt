@@ -1,18 +1,9 @@
-//! Whether the lines of an answer are coloured.
+//! The words that name a colouring.
 
 ghost use Rattle.std.specs.Prelude.{◌≡◌, ◌≢◌, MatchOption};
 ghost use Rattle.app_command_line.specs.Options.{color_word};
 
-/// Whether the lines of an answer are coloured.
-#[derive(Clone, Copy, Debug, PartialEq, Eq)]
-pub enum Coloring {
-    /// On a terminal, unless the environment forbids it.
-    Auto,
-    /// Always.
-    Always,
-    /// Never.
-    Never,
-}
+use app_orders::Coloring;
 
 /// The colouring that a word names.
 pub fn coloring_in(word: &str) -> Option<Coloring>

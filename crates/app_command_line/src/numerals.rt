@@ -4,10 +4,7 @@ ghost use Rattle.std.specs.Prelude.{◌<◌, ◌≤◌, ℕ, MatchOption};
 ghost use Rattle.judge_workers.specs.Workers.{AreWorkers};
 ghost use Rattle.app_command_line.specs.Numerals.{IsEvery, IsLeast, IsListed, Writes};
 
-use crate::drive::MAX_SEALS;
-use crate::listing::MAX_LISTED;
-use crate::log_order::MAX_EVERY;
-use crate::manner::MAX_LEAST_READS;
+use app_orders::{MAX_EVERY, MAX_LEAST_READS, MAX_LISTED, MAX_SEALS};
 use judge_workers::Workers;
 use model_history::MAX_SESSIONS;
 

@@ -3,11 +3,11 @@
 ghost use Rattle.std.specs.Prelude.{MatchOption, None, Some, map};
 ghost use Rattle.app_command_line.specs.Options.{AddsAlone, AddsTogether, IsAsked, Say};
 
-use crate::manner::Asked;
 use crate::operands::after_files;
 use crate::said::Said;
 use crate::settings::{command_named, setting_alone, setting_together};
 use crate::sight::Sight;
+use app_orders::Asked;
 use std::convert::AsStr;
 
 /// What the word of a command and the words after it ask for on an input that looks so. O(n) for n words that name files: it stops at

@@ -1,7 +1,7 @@
 //! All that the words after a command say, and the order that they give.
 
 ghost use Rattle.std.specs.Prelude.{◌≡◌, false, option_map, true};
-ghost use Rattle.app_command_line.specs.declared.order.Task.TheVariants.{OfInput, OfLog};
+ghost use Rattle.app_orders.specs.declared.order.Task.TheVariants.{OfInput, OfLog};
 ghost use Rattle.app_command_line.specs.Options.{and_also, asked_for, blank_for, delivery_for, detail_for, drive_for, drive_of, events_for};
 ghost use Rattle.app_command_line.specs.Options.{explain_for, explain_of, form_for, judge_for, judge_lines_of, judge_one_of, judging_for};
 ghost use Rattle.app_command_line.specs.Options.{length_for, line_judging_for, list_form_for, listing_of, log_judging_for, long_form_for};
@@ -9,21 +9,13 @@ ghost use Rattle.app_command_line.specs.Options.{manner_for, page_for, page_of_w
 ghost use Rattle.app_command_line.specs.Options.{task_for, unsaid, with_setting};
 ghost use Rattle.app_command_line.specs.Options.{workers_for};
 
-use crate::coloring::Coloring;
-use crate::detail::Detail;
-use crate::drive::{Drive, Store};
-use crate::expected::Expected;
-use crate::form::{Form, ListForm, LongForm};
-use crate::judging::Judging;
-use crate::length::Length;
-use crate::line_judging::{BlankLines, LineJudging};
-use crate::listing::Listing;
-use crate::log_order::{LogJudging, LogOrder};
-use crate::manner::{Asked, Manner};
-use crate::order::{Order, Task};
-use crate::page::{Page, PageOf, USUAL_LISTED};
 use crate::settings::{CommandName, Setting};
 use crate::sight::Sight;
+use app_orders::{
+    Asked, BlankLines, Coloring, Detail, Drive, Expected, Form, Judging, Length, LineJudging,
+    ListForm, Listing, LogJudging, LogOrder, LongForm, Manner, Order, Page, PageOf, Store, Task,
+    USUAL_LISTED,
+};
 use judge_workers::Workers;
 use live_replica::Delivery;
 

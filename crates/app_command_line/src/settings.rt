@@ -4,10 +4,10 @@ ghost use Rattle.std.specs.Prelude.{◌≡◌, ◌≢◌, MatchOption};
 ghost use Rattle.app_command_line.specs.Options.{SaysAlone, SaysTogether, command_word, takes};
 ghost use Rattle.app_command_line.specs.Steps.BareWords.{IsNoBareWord};
 
-use crate::coloring::{Coloring, coloring_in};
-use crate::drive::Store;
-use crate::expected::{Expected, expected_in};
+use crate::coloring::coloring_in;
+use crate::expected::expected_in;
 use crate::numerals::{every_in, listed_in, reads_in, seals_in, session_in, workers_in};
+use app_orders::{Coloring, Expected, Store};
 use judge_workers::Workers;
 
 /// The name of a command.

@@ -2,7 +2,7 @@
 use Rattle.std.proofs.Common.{ℕ, List, subst}
 use Rattle.json_histories.specs.declared.any_history.AnyHistory.{AnyHistory}
 use Rattle.json_histories.specs.AnyForm.{form_of, IsJson}
-use Rattle.app_command_line.specs.declared.length.Length.{Length}
+use Rattle.app_orders.specs.declared.length.Length.{Length}
 use Rattle.app_findings.specs.declared.finding.Findings.{Findings}
 use Rattle.app_explanations.specs.Agreeing.{Agree}
 use Rattle.app_explanations.specs.Lengths.{IsHistoryOf}

@@ -16,8 +16,8 @@ use Rattle.cert_check.proofs.CriterionNames.{one_name}
 use Rattle.app_engine.proofs.PatternForms.{one_pattern}
 use Rattle.app_engine.specs.Failure.{failure_of}
 use Rattle.app_engine.specs.declared.failure.RunError.TheVariants.{NotThatPattern}
-use Rattle.app_command_line.specs.declared.length.Length.{Length}
-use Rattle.app_command_line.specs.declared.length.Length.TheVariants.{Limited}
+use Rattle.app_orders.specs.declared.length.Length.{Length}
+use Rattle.app_orders.specs.declared.length.Length.TheVariants.{Limited}
 use Rattle.app_explanations.specs.Lengths.{IsHistoryOf, first_refusal_of}
 use Rattle.app_engine.specs.Refuting.{claim_form, claim_refusal_at, HasNoSuchPatternAt, IsClaimError}
 use Rattle.app_findings.specs.Answers.{IsPatternOf}

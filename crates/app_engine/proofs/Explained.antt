@@ -1,8 +1,8 @@
 -- What is written of a history in a form is an output on each input that holds the history.
 use Rattle.std.proofs.Common.{ℕ, List}
-use Rattle.app_command_line.specs.declared.form.Form.TheVariants.{Certificates, Json, Words}
-use Rattle.app_command_line.specs.declared.length.Length.TheVariants.{Limited}
-use Rattle.app_command_line.specs.declared.order.Order.TheVariants.{Explain}
+use Rattle.app_orders.specs.declared.form.Form.TheVariants.{Certificates, Json, Words}
+use Rattle.app_orders.specs.declared.length.Length.TheVariants.{Limited}
+use Rattle.app_orders.specs.declared.order.Order.TheVariants.{Explain}
 use Rattle.json_histories.specs.declared.any_history.AnyHistory.{AnyHistory}
 use Rattle.json_histories.specs.AnyForm.{form_of, IsAnyHistory, IsJson}
 use Rattle.app_explanations.specs.declared.clients.Clients.TheVariants.{Sessions}

@@ -1,9 +1,9 @@
 -- What answers a line, and what answers all lines of an input.
 use Rattle.std.proofs.Common.{◌≡◌, ◌<◌, ◌≤◌, ◌++◌, ℕ, List, [], Some, length, Result, Ok, Err, IfOk, ◌∙◌, ap, sym, subst, inr, arith}
-use Rattle.app_command_line.specs.declared.expected.Expected.{Expected}
-use Rattle.app_command_line.specs.declared.length.Length.{Length}
-use Rattle.app_command_line.specs.declared.line_judging.BlankLines.{BlankLines}
-use Rattle.app_command_line.specs.declared.line_judging.LineJudging.{LineJudging}
+use Rattle.app_orders.specs.declared.expected.Expected.{Expected}
+use Rattle.app_orders.specs.declared.length.Length.{Length}
+use Rattle.app_orders.specs.declared.line_judging.BlankLines.{BlankLines}
+use Rattle.app_orders.specs.declared.line_judging.LineJudging.{LineJudging}
 use Rattle.json_lines.specs.declared.fault.Fault.{Fault}
 use Rattle.json_lines.specs.declared.outcome.Outcome.{Outcome}
 use Rattle.json_lines.specs.LineHandlers.{AppendsAnswer, SaysOfLonger}

@@ -18,7 +18,7 @@ use Rattle.pattern_json.specs.declared.violation.Violation.{Violation}
 use Rattle.order_memory.specs.Memory.{MemoryHistory}
 use Rattle.judge_memory.specs.LongHistories.{IsLongHistory}
 use Rattle.judge_reader.specs.FirstOfList.{BeginsWith, IsRefusedFirst, refusal_of_first}
-use Rattle.app_command_line.specs.declared.length.Length.TheVariants.{Any}
+use Rattle.app_orders.specs.declared.length.Length.TheVariants.{Any}
 use Rattle.app_engine.specs.declared.failure.RunError.TheVariants as failures
 use Rattle.app_engine.specs.Failure.{failure_of}
 use Rattle.app_engine.specs.Refuting.{claim_form, claim_refusal_at, IsClaimErrorAt}

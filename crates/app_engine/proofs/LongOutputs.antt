@@ -1,13 +1,13 @@
 -- What is written of a history of any length is an output on the input in which it was read.
 use Rattle.std.proofs.Common.{◌≡◌, ℕ, List, Some, subst, sym}
-use Rattle.app_command_line.specs.declared.form.ListForm.{ListForm}
-use Rattle.app_command_line.specs.declared.form.ListForm.TheVariants as list_forms
-use Rattle.app_command_line.specs.declared.form.LongForm.{LongForm}
-use Rattle.app_command_line.specs.declared.form.LongForm.TheVariants as long_forms
-use Rattle.app_command_line.specs.declared.length.Length.{Length}
-use Rattle.app_command_line.specs.declared.length.Length.TheVariants.{Any}
-use Rattle.app_command_line.specs.declared.listing.Listing.{Listing}
-use Rattle.app_command_line.specs.declared.order.Order.TheVariants.{ExplainLong, ListFaults}
+use Rattle.app_orders.specs.declared.form.ListForm.{ListForm}
+use Rattle.app_orders.specs.declared.form.ListForm.TheVariants as list_forms
+use Rattle.app_orders.specs.declared.form.LongForm.{LongForm}
+use Rattle.app_orders.specs.declared.form.LongForm.TheVariants as long_forms
+use Rattle.app_orders.specs.declared.length.Length.{Length}
+use Rattle.app_orders.specs.declared.length.Length.TheVariants.{Any}
+use Rattle.app_orders.specs.declared.listing.Listing.{Listing}
+use Rattle.app_orders.specs.declared.order.Order.TheVariants.{ExplainLong, ListFaults}
 use Rattle.json_histories.specs.declared.any_history.AnyHistory.{AnyHistory}
 use Rattle.json_histories.specs.declared.any_history.AnyHistory.TheVariants as histories
 use Rattle.json_histories.specs.AnyForm.{form_of, IsAnyHistory, IsJson}

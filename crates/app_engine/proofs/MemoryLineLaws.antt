@@ -8,11 +8,11 @@ use Rattle.cert_check.specs.declared.criterion.Criterion.{Criterion}
 use Rattle.cert_check.specs.declared.criterion.Criterion.TheVariants.{Cc, Cm, Ccv}
 use Rattle.live_case_board.specs.declared.answer.Answer.{Answer}
 use Rattle.live_case_board.specs.declared.answer.Answer.TheVariants.{Yes, No, Unknown, Open}
-use Rattle.app_command_line.specs.declared.judging.Judging.{Judging}
-use Rattle.app_command_line.specs.declared.length.Length.{Length}
-use Rattle.app_command_line.specs.declared.length.Length.TheVariants.{Limited, Any}
-use Rattle.app_command_line.specs.declared.order.Order.{Order}
-use Rattle.app_command_line.specs.declared.order.Order.TheVariants.{Judge}
+use Rattle.app_orders.specs.declared.judging.Judging.{Judging}
+use Rattle.app_orders.specs.declared.length.Length.{Length}
+use Rattle.app_orders.specs.declared.length.Length.TheVariants.{Limited, Any}
+use Rattle.app_orders.specs.declared.order.Order.{Order}
+use Rattle.app_orders.specs.declared.order.Order.TheVariants.{Judge}
 use Rattle.app_engine.specs.declared.failure.RunError.{RunError}
 use Rattle.std.specs.Prelude.{Result, Ok, Err, IfOk}
 use Rattle.json_lines.specs.declared.outcome.Outcome.{Outcome}

@@ -21,21 +21,21 @@ use Rattle.cert_check.proofs.CertificateForms.{one_certificate}
 use Rattle.cert_check.specs.CriterionNames.{name_of}
 use Rattle.pattern_json.specs.PatternForm.{form_of as pattern_form}
 use Rattle.json_lines.specs.declared.outcome.Outcome.{Outcome}
-use Rattle.app_command_line.specs.declared.order.Order.{Order}
-use Rattle.app_command_line.specs.declared.order.Order.TheVariants.{Judge, JudgeLines, Check, Explain, ExplainLong, ListFaults, Refute, Replay, Drive}
-use Rattle.app_command_line.specs.declared.drive.Drive.{Drive as Drives}
-use Rattle.app_command_line.specs.declared.form.Form.{Form}
-use Rattle.app_command_line.specs.declared.form.Form.TheVariants.{Words, Json, Certificates, Picture}
-use Rattle.app_command_line.specs.declared.form.LongForm.{LongForm}
-use Rattle.app_command_line.specs.declared.form.LongForm.TheVariants as long_forms
-use Rattle.app_command_line.specs.declared.form.ListForm.{ListForm}
-use Rattle.app_command_line.specs.declared.form.ListForm.TheVariants as list_forms
-use Rattle.app_command_line.specs.declared.judging.Judging.{Judging}
-use Rattle.app_command_line.specs.declared.line_judging.LineJudging.{LineJudging}
-use Rattle.app_command_line.specs.declared.length.Length.{Length}
-use Rattle.app_command_line.specs.declared.listing.Listing.{Listing}
-use Rattle.app_command_line.specs.declared.length.Length.TheVariants.{Limited, Any}
-use Rattle.app_command_line.specs.Expected.{expecting_nothing}
+use Rattle.app_orders.specs.declared.order.Order.{Order}
+use Rattle.app_orders.specs.declared.order.Order.TheVariants.{Judge, JudgeLines, Check, Explain, ExplainLong, ListFaults, Refute, Replay, Drive}
+use Rattle.app_orders.specs.declared.drive.Drive.{Drive as Drives}
+use Rattle.app_orders.specs.declared.form.Form.{Form}
+use Rattle.app_orders.specs.declared.form.Form.TheVariants.{Words, Json, Certificates, Picture}
+use Rattle.app_orders.specs.declared.form.LongForm.{LongForm}
+use Rattle.app_orders.specs.declared.form.LongForm.TheVariants as long_forms
+use Rattle.app_orders.specs.declared.form.ListForm.{ListForm}
+use Rattle.app_orders.specs.declared.form.ListForm.TheVariants as list_forms
+use Rattle.app_orders.specs.declared.judging.Judging.{Judging}
+use Rattle.app_orders.specs.declared.line_judging.LineJudging.{LineJudging}
+use Rattle.app_orders.specs.declared.length.Length.{Length}
+use Rattle.app_orders.specs.declared.listing.Listing.{Listing}
+use Rattle.app_orders.specs.declared.length.Length.TheVariants.{Limited, Any}
+use Rattle.app_orders.specs.Expected.{expecting_nothing}
 use Rattle.app_engine.specs.Driving.{IsDriveError, IsDriveReport, IsUndriven, sessions_in}
 use Rattle.app_engine.specs.declared.failure.RunError.{RunError}
 use Rattle.app_engine.specs.declared.failure.RunError.TheVariants.{History, Script, BadCertificate, ShapeMismatch, NotThatPattern, BadLimits, NoSuch, TooLong, Memory, ReadFault, WriteFault}

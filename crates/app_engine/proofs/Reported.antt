@@ -5,10 +5,10 @@ use Rattle.json_histories.specs.AnyForm.{form_of, IsAnyHistory, IsJson}
 use Rattle.json_histories.specs.declared.any_history.AnyHistory.TheVariants as histories
 use Rattle.order_memory.specs.Memory.{MemoryHistory}
 use Rattle.judge_memory.specs.LongHistories.{IsLongHistory}
-use Rattle.app_command_line.specs.declared.judging.Judging.{Judging}
-use Rattle.app_command_line.specs.declared.length.Length.{Length}
-use Rattle.app_command_line.specs.declared.length.Length.TheVariants.{Limited, Any}
-use Rattle.app_command_line.specs.declared.order.Order.TheVariants.{Judge}
+use Rattle.app_orders.specs.declared.judging.Judging.{Judging}
+use Rattle.app_orders.specs.declared.length.Length.{Length}
+use Rattle.app_orders.specs.declared.length.Length.TheVariants.{Limited, Any}
+use Rattle.app_orders.specs.declared.order.Order.TheVariants.{Judge}
 use Rattle.app_engine.specs.declared.failure.RunError.{RunError}
 use Rattle.app_engine.specs.declared.failure.RunError.TheVariants.{History, Script, BadCertificate, ShapeMismatch, NotThatPattern, BadLimits, NoSuch, TooLong, Memory, ReadFault, WriteFault}
 use Rattle.app_engine.specs.declared.input.TheConstants.{MAX_INPUT_BYTES}

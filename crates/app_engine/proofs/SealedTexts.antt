@@ -11,7 +11,7 @@ use Rattle.json_histories.specs.declared.any_history.AnyHistory.{AnyHistory}
 use Rattle.json_histories.specs.AnyForm.{form_of, IsAnyHistory}
 use Rattle.serde_json.specs.Written.{compact_text}
 use Rattle.cert_check.proofs.Named.{take_next}
-use Rattle.app_command_line.specs.declared.drive.Drive.{Drive}
+use Rattle.app_orders.specs.declared.drive.Drive.{Drive}
 use Rattle.app_findings.specs.declared.finding.Findings.{Findings}
 use Rattle.app_findings.specs.declared.kept.Kept.TheVariants.{Answers}
 use Rattle.app_findings.specs.Findings.{EachIsFound}

@@ -1,8 +1,8 @@
 -- How the calling thread alone judges a history.
-use Rattle.app_command_line.specs.declared.judging.Judging.{Judging}
-use Rattle.app_command_line.specs.declared.length.Length.{Length}
-use Rattle.app_command_line.specs.declared.length.Length.TheVariants.{Limited}
-use Rattle.app_command_line.specs.Expected.{expecting_nothing}
+use Rattle.app_orders.specs.declared.judging.Judging.{Judging}
+use Rattle.app_orders.specs.declared.length.Length.{Length}
+use Rattle.app_orders.specs.declared.length.Length.TheVariants.{Limited}
+use Rattle.app_orders.specs.Expected.{expecting_nothing}
 
 -- as one worker does, and nothing is expected of the history, which may be that long
 abbrev pub judging_alone_at : Length → Judging

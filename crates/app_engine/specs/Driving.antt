@@ -7,10 +7,10 @@ use Rattle.live_driver.specs.Drives.{IsOfInput, RepeatsCalls}
 use Rattle.json_histories.specs.declared.any_history.AnyHistory.{AnyHistory}
 use Rattle.json_histories.specs.declared.any_history.AnyHistory.TheVariants as histories
 use Rattle.json_histories.specs.AnyForm.{form_of, IsAnyHistory, IsJson}
-use Rattle.app_command_line.specs.declared.order.Order.{Order}
-use Rattle.app_command_line.specs.declared.order.Order.TheVariants as orders
-use Rattle.app_command_line.specs.declared.drive.Drive.{Drive}
-use Rattle.app_command_line.specs.declared.length.Length.TheVariants.{Limited}
+use Rattle.app_orders.specs.declared.order.Order.{Order}
+use Rattle.app_orders.specs.declared.order.Order.TheVariants as orders
+use Rattle.app_orders.specs.declared.drive.Drive.{Drive}
+use Rattle.app_orders.specs.declared.length.Length.TheVariants.{Limited}
 use Rattle.app_engine.specs.declared.failure.RunError.{RunError}
 use Rattle.app_engine.specs.declared.failure.RunError.TheVariants.{BadLimits, NoSuch, Memory}
 use Rattle.app_findings.specs.declared.finding.Findings.{Findings}

@@ -1,6 +1,6 @@
 -- Where a run stands that wrote no whole answer.
 use Rattle.std.specs.Prelude.{⊤, ℕ, List, Option, Result, Ok, Err}
-use Rattle.app_command_line.specs.declared.order.Order.{Order}
+use Rattle.app_orders.specs.declared.order.Order.{Order}
 use Rattle.app_engine.specs.declared.failure.RunError.{RunError}
 use Rattle.app_engine.specs.declared.failure.RunError.TheVariants.{TooLong, Memory, ReadFault}
 use Rattle.app_engine.specs.Running.{IsOutput}

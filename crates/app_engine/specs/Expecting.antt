@@ -2,13 +2,13 @@
 use Rattle.std.specs.Prelude.{◌≡◌, ℕ, Bool, true, false, List}
 use Rattle.live_case_board.specs.declared.answer.Answer.{Answer}
 use Rattle.live_case_board.specs.declared.answer.Answer.TheVariants.{Yes, No, Unknown, Open}
-use Rattle.app_command_line.specs.declared.expected.Expected.{Expected}
+use Rattle.app_orders.specs.declared.expected.Expected.{Expected}
 use Rattle.json_lines.specs.declared.outcome.Outcome.{Outcome}
 use Rattle.json_lines.specs.declared.outcome.Outcome.TheVariants as outcomes
 use Rattle.json_lines.specs.Outcomes.{worse}
 use Rattle.app_findings.specs.declared.finding.Findings.{Findings}
 use Rattle.app_findings.specs.Findings.{answer_of}
-use Rattle.app_command_line.specs.declared.length.Length.{Length}
+use Rattle.app_orders.specs.declared.length.Length.{Length}
 use Rattle.app_explanations.specs.Report.{IsReportOnAt, text_for}
 
 -- what comes of the answer for a criterion that is expected to be met, or isn't

@@ -1,9 +1,9 @@
 -- How long the input of an order may be, and which read calls are made for it.
 use Rattle.std.specs.Prelude.{ℕ}
-use Rattle.app_command_line.specs.declared.length.Length.{Length}
-use Rattle.app_command_line.specs.declared.length.Length.TheVariants.{Limited, Any}
-use Rattle.app_command_line.specs.declared.order.Order.{Order}
-use Rattle.app_command_line.specs.declared.order.Order.TheVariants.{Judge, ExplainLong, ListFaults, Refute}
+use Rattle.app_orders.specs.declared.length.Length.{Length}
+use Rattle.app_orders.specs.declared.length.Length.TheVariants.{Limited, Any}
+use Rattle.app_orders.specs.declared.order.Order.{Order}
+use Rattle.app_orders.specs.declared.order.Order.TheVariants.{Judge, ExplainLong, ListFaults, Refute}
 use Rattle.json_lines.specs.ReadCalls.{CallOutcome, CallsAtMost, EndsBy, FindsNoEnd}
 use Rattle.app_engine.specs.ReadCalls.{EndsIdle, FindsNoEndIdle, IdlesAtMost}
 use Rattle.app_engine.specs.declared.input.TheConstants.{MAX_INPUT_BYTES, MAX_LONG_INPUT_BYTES}

@@ -1,11 +1,11 @@
 -- What is answered to a line that is a history.
 use Rattle.std.specs.Prelude.{◌≡◌, ◌-◌, ◌<◌, ◌≤◌, ◌⊎◌, ⊤, true, ℕ, List, [], ◌++◌, codes, length, take}
 use Rattle.cert_check.specs.declared.criterion.Criterion.TheVariants.{Cc, Cm, Ccv}
-use Rattle.app_command_line.specs.declared.expected.Expected.{Expected}
-use Rattle.app_command_line.specs.declared.length.Length.{Length}
-use Rattle.app_command_line.specs.declared.line_judging.BlankLines.{BlankLines}
-use Rattle.app_command_line.specs.declared.line_judging.BlankLines.TheVariants.{Skipped}
-use Rattle.app_command_line.specs.declared.line_judging.LineJudging.{LineJudging}
+use Rattle.app_orders.specs.declared.expected.Expected.{Expected}
+use Rattle.app_orders.specs.declared.length.Length.{Length}
+use Rattle.app_orders.specs.declared.line_judging.BlankLines.{BlankLines}
+use Rattle.app_orders.specs.declared.line_judging.BlankLines.TheVariants.{Skipped}
+use Rattle.app_orders.specs.declared.line_judging.LineJudging.{LineJudging}
 use Rattle.json_lines.specs.declared.outcome.Outcome.{Outcome}
 use Rattle.json_lines.specs.declared.outcome.Outcome.TheVariants.{Met, Refused}
 use Rattle.json_lines.specs.Lines.{AreAnswered, is_blank, lines_of}

@@ -11,7 +11,7 @@ use Rattle.cert_check.specs.CriterionNames.{name_of}
 use Rattle.pattern_check.specs.declared.kind.Kind.{Kind}
 use Rattle.pattern_check.specs.Kinds.{IsTrueNo}
 use Rattle.pattern_check.specs.KindNames.{kind_name}
-use Rattle.app_command_line.specs.declared.length.Length.{Length}
+use Rattle.app_orders.specs.declared.length.Length.{Length}
 use Rattle.app_explanations.specs.Lengths.{IsHistoryOf}
 
 module _ (h : MemoryHistory) (criterion : Criterion) where

@@ -14,8 +14,8 @@ use Rattle.pattern_check.specs.Patterns.{kind_of}
 use Rattle.live_case_board.specs.declared.answer.Answer.TheVariants.{No}
 use Rattle.app_engine.specs.declared.failure.RunError.{RunError}
 use Rattle.app_engine.specs.declared.failure.RunError.TheVariants.{NotThatPattern}
-use Rattle.app_command_line.specs.declared.length.Length.{Length}
-use Rattle.app_command_line.specs.declared.length.Length.TheVariants.{Limited}
+use Rattle.app_orders.specs.declared.length.Length.{Length}
+use Rattle.app_orders.specs.declared.length.Length.TheVariants.{Limited}
 use Rattle.app_engine.specs.InputErrors.{IsTextError}
 use Rattle.app_explanations.specs.Lengths.{IsHistoryOf, first_refusal_of}
 use Rattle.app_findings.specs.Answers.{IsExcluded, IsPatternOf}

@@ -1,17 +1,17 @@
 -- What a run writes, and when it fails.
 use Rattle.std.specs.Prelude.{◌≡◌, ◌<◌, ◌≤◌, ℕ, List, Option, IfSome, length}
 use Rattle.std.specs.Io.KnownBytes.{Appends}
-use Rattle.app_command_line.specs.declared.order.Order.{Order}
+use Rattle.app_orders.specs.declared.order.Order.{Order}
 use Rattle.app_engine.specs.declared.failure.RunError.{RunError}
 use Rattle.app_engine.specs.declared.failure.RunError.TheVariants.{History, Script, BadCertificate, ShapeMismatch, NotThatPattern, BadLimits, NoSuch, TooLong, Memory, ReadFault, WriteFault}
 use Rattle.json_histories.specs.AnyForm.{IsJson, IsRefusedFor}
 use Rattle.json_lines.specs.declared.outcome.Outcome.{Outcome}
 use Rattle.json_lines.specs.declared.outcome.Outcome.TheVariants.{Met}
 use Rattle.json_lines.specs.Lines.{AreAnswered, lines_of}
-use Rattle.app_command_line.specs.declared.form.Form.TheVariants.{Words, Json, Certificates, Picture}
-use Rattle.app_command_line.specs.declared.form.LongForm.TheVariants as long_forms
-use Rattle.app_command_line.specs.declared.length.Length.TheVariants.{Any}
-use Rattle.app_command_line.specs.declared.order.Order.TheVariants.{Judge, JudgeLines, Check, Explain, ExplainLong, ListFaults, Refute, Replay, Drive}
+use Rattle.app_orders.specs.declared.form.Form.TheVariants.{Words, Json, Certificates, Picture}
+use Rattle.app_orders.specs.declared.form.LongForm.TheVariants as long_forms
+use Rattle.app_orders.specs.declared.length.Length.TheVariants.{Any}
+use Rattle.app_orders.specs.declared.order.Order.TheVariants.{Judge, JudgeLines, Check, Explain, ExplainLong, ListFaults, Refute, Replay, Drive}
 use Rattle.app_explanations.specs.Lengths.{IsRefusedAs}
 use Rattle.app_explanations.specs.Report.{IsReportAt}
 use Rattle.app_engine.specs.Expecting.{IsOutcomeOfReport}

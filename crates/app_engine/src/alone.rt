@@ -1,8 +1,8 @@
 //! Answers to inputs that are in memory, made by the calling thread alone.
 
 ghost use Rattle.std.specs.Prelude.{◌≤◌, IfErr, IfOk, OnOk, Some, length, string_bytes};
-ghost use Rattle.app_command_line.specs.declared.form.Form.TheVariants.{Json};
-ghost use Rattle.app_command_line.specs.declared.length.Length.TheVariants.{Any};
+ghost use Rattle.app_orders.specs.declared.form.Form.TheVariants.{Json};
+ghost use Rattle.app_orders.specs.declared.length.Length.TheVariants.{Any};
 ghost use Rattle.app_engine.specs.Alone.{judging_alone, judging_alone_at};
 ghost use Rattle.app_engine.specs.Running.{Fails, IsOutput, IsOutputError};
 ghost use Rattle.app_engine.specs.declared.input.TheConstants.{MAX_INPUT_BYTES, MAX_LONG_INPUT_BYTES};
@@ -14,8 +14,8 @@ use crate::failure::RunError;
 use crate::input::stay_within;
 use crate::long_refuting::refute_long;
 use crate::refuting::refute;
-use app_command_line::{Form, Length, LongForm, Order};
 use app_explanations::report_text;
+use app_orders::{Form, Length, LongForm, Order};
 use json::Scratch;
 use judge_workers::CallingThread;
 use std::alloc::Global;

@@ -7,9 +7,9 @@ ghost use Rattle.app_engine.specs.Running.{IsOutputError};
 ghost use Rattle.app_engine.specs.Checking.{IsCheckReport, IsPair, IsUnread};
 
 use crate::failure::RunError;
-use app_command_line::Order;
 use app_explanations::report_line;
 use app_findings::PieceWork;
+use app_orders::Order;
 use cert_check::{Certificate, DeskError};
 use json_histories::AnyHistory;
 use pattern_json::{FoundCertificate, read_pair};

@@ -8,9 +8,9 @@ ghost use Rattle.app_engine.specs.Steps.SealedTexts.{AreSealedFrom, AreTrueTexts
 
 use crate::drivable::Drivable;
 use crate::failure::RunError;
-use app_command_line::{Drive, Order, Store};
 use app_explanations::report_text;
 use app_findings::{PieceWork, report_on};
+use app_orders::{Drive, Order, Store};
 use json_histories::{AnyHistory, History, read_history, write_history};
 use judge_workers::{Gate, OpenGate, WorkerThreads};
 use live_causal_store::AsDelivered;

@@ -5,12 +5,12 @@ ghost use Rattle.json_histories.specs.AnyForm.{IsAnyHistory, IsJson, form_of};
 ghost use Rattle.app_engine.specs.Running.{IsOutput, IsOutputError};
 
 use crate::failure::RunError;
-use app_command_line::{Form, LongForm, Order};
 use app_explanations::{
     certified_json_of_history, drawing_of_history, explained_long, json_of_history,
     words_of_history,
 };
 use app_findings::PieceWork;
+use app_orders::{Form, LongForm, Order};
 use json_histories::{AnyHistory, read_history};
 use judge_decision::SessionWork;
 use judge_reader::read_long;

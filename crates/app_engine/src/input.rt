@@ -9,7 +9,7 @@ ghost use Rattle.app_engine.specs.Steps.Transfer.{Gives};
 
 use crate::failure::RunError;
 use crate::read_call::{Given, chunk_of_zeros, read_once};
-use app_command_line::Length;
+use app_orders::Length;
 use json_lines::{MAX_READ_CALLS, Source};
 use std::alloc::Global;
 

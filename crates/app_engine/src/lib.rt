@@ -32,15 +32,15 @@ pub use alone::{
     judge_long_alone, refute_alone, refute_long_alone,
 };
 pub use answered::Answered;
-pub use app_command_line::{
-    BlankLines, Delivery, Drive, Expected, Form, Judging, Length, LineJudging, ListForm, Listing,
-    LongForm, MAX_LISTED, MAX_SEALS, Order, Store,
-};
 pub use app_explanations::{explained_as, list_in_long, report_line, report_text};
 pub use app_findings::{
     Finding, Findings, Kept, PieceWork, findings_of, findings_of_memory, report_on, report_on_long,
 };
 pub use app_judging::Answer;
+pub use app_orders::{
+    BlankLines, Delivery, Drive, Expected, Form, Judging, Length, LineJudging, ListForm, Listing,
+    LongForm, MAX_LISTED, MAX_SEALS, Order, Store,
+};
 pub use drivable::Drivable;
 pub use driving::drive_with;
 pub use expecting::outcome_of;

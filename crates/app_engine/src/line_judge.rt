@@ -11,7 +11,7 @@ use crate::answered::Answered;
 use crate::failure::RunError;
 use crate::input::MAX_INPUT_BYTES;
 use crate::line_answers::{append_answer, append_refusal};
-use app_command_line::{LineJudging, Order};
+use app_orders::{LineJudging, Order};
 use json::Scratch;
 use json_line_workers::answer_lines;
 use json_lines::{Fault, LineHandler, MAX_READ_CALLS, MAX_WRITE_CALLS, Outcome, Sink, Source};

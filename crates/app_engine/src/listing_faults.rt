@@ -8,9 +8,9 @@ ghost use Rattle.app_engine.specs.Running.{IsOutput, IsOutputError};
 ghost use Rattle.app_engine.specs.Steps.ReportErrors.{IsReportError};
 
 use crate::failure::RunError;
-use app_command_line::{Length, ListForm, Listing, Order};
 use app_explanations::{list_in_limited, listed_long};
 use app_findings::PieceWork;
+use app_orders::{Length, ListForm, Listing, Order};
 use json_histories::{AnyHistory, read_history};
 use judge_decision::SessionWork;
 use judge_memory::LongHistory;

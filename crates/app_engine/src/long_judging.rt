@@ -1,7 +1,7 @@
 //! The report on a memory history of any length.
 
 ghost use Rattle.std.specs.Prelude.{IfErr, IfOk};
-ghost use Rattle.app_command_line.specs.declared.length.Length.TheVariants.{Any};
+ghost use Rattle.app_orders.specs.declared.length.Length.TheVariants.{Any};
 ghost use Rattle.app_explanations.specs.Report.{IsReportOnAt};
 ghost use Rattle.app_engine.specs.Steps.ReportErrors.{IsReportError};
 

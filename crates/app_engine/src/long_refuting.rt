@@ -2,16 +2,16 @@
 
 ghost use Rattle.std.specs.Prelude.{IfErr, IfOk, string_bytes};
 ghost use Rattle.app_engine.specs.Steps.LongClaims.{IsShownBy};
-ghost use Rattle.app_command_line.specs.declared.length.Length.TheVariants.{Any};
+ghost use Rattle.app_orders.specs.declared.length.Length.TheVariants.{Any};
 ghost use Rattle.judge_memory.specs.LongHistories.{IsLongHistory};
 ghost use Rattle.json_histories.specs.AnyForm.{IsJson};
 ghost use Rattle.app_engine.specs.Refuting.{IsClaimErrorAt, claim_form};
 ghost use Rattle.app_engine.specs.Running.{IsOutput, IsOutputError};
 
 use crate::failure::RunError;
-use app_command_line::{Length, Order};
 use app_explanations::report_line;
 use app_judging::Answer;
+use app_orders::{Length, Order};
 use cert_check::Criterion;
 use json_bounded::TextError;
 use json_histories::{AnyHistory, ReadError};

@@ -8,9 +8,9 @@ ghost use Rattle.app_engine.specs.Running.{IsOutput, IsOutputError};
 ghost use Rattle.app_engine.specs.Refuting.{IsClaimError, claim_form};
 
 use crate::failure::RunError;
-use app_command_line::{Length, Order};
 use app_explanations::report_line;
 use app_judging::Answer;
+use app_orders::{Length, Order};
 use cert_check::Criterion;
 use json_histories::AnyHistory;
 use pattern_check::{Pattern, check_pattern};

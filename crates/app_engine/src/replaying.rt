@@ -4,7 +4,7 @@ ghost use Rattle.std.specs.Prelude.{IfErr, IfOk, string_bytes};
 ghost use Rattle.app_engine.specs.Running.{IsOutput, IsOutputError};
 
 use crate::failure::RunError;
-use app_command_line::Order;
+use app_orders::Order;
 use std::alloc::Global;
 
 /// The lines of the replies to the steps of the script in the input.

@@ -11,8 +11,8 @@ use Rattle.order_memory.specs.Memory.{MemoryHistory}
 use Rattle.pattern_check.specs.declared.kind.Kind.{Kind}
 use Rattle.pattern_check.specs.declared.kind.Kind.TheVariants.{CyclicCO, ThinAirRead, WriteCOInitRead, WriteCORead, WriteHBInitRead, CyclicHB, CyclicCF}
 use Rattle.pattern_search.specs.FirstKinds.{place_of}
-use Rattle.app_command_line.specs.declared.length.Length.{Length}
-use Rattle.app_command_line.specs.declared.length.Length.TheVariants.{Any, Limited}
+use Rattle.app_orders.specs.declared.length.Length.{Length}
+use Rattle.app_orders.specs.declared.length.Length.TheVariants.{Any, Limited}
 use Rattle.app_findings.specs.declared.finding.Finding.{Finding}
 use Rattle.app_findings.specs.declared.finding.Finding.TheVariants.{Met, Shown, Present, Unexplained}
 use Rattle.app_findings.specs.declared.finding.Findings.{Findings}

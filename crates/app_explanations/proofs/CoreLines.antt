@@ -22,8 +22,8 @@ use Rattle.judge_cores.specs.declared.long_core.Gathered.{Gathered}
 use Rattle.judge_cores.specs.declared.long_core.Gathered.TheVariants.{Core, Operations}
 use Rattle.judge_subhistories.specs.Cores.{IsCoreText}
 use Rattle.judge_subhistories.specs.WithoutVariables.{without_variables}
-use Rattle.app_command_line.specs.declared.length.Length.{Length}
-use Rattle.app_command_line.specs.declared.length.Length.TheVariants.{Any, Limited}
+use Rattle.app_orders.specs.declared.length.Length.{Length}
+use Rattle.app_orders.specs.declared.length.Length.TheVariants.{Any, Limited}
 use Rattle.live_case_board.specs.declared.answer.Answer.TheVariants.{No}
 use Rattle.app_findings.specs.declared.finding.Finding.{Finding}
 use Rattle.app_findings.specs.declared.finding.Finding.TheVariants.{Met, Shown, Present, Unexplained}

@@ -11,11 +11,11 @@ use Rattle.pattern_check.specs.declared.kind.Kind.{Kind}
 use Rattle.pattern_check.specs.declared.pattern.Pattern.{Pattern}
 use Rattle.pattern_check.specs.Patterns.{IsShownBy, kind_of}
 use Rattle.judge_decision.specs.LongDecisions.{IsLongNo}
-use Rattle.app_command_line.specs.declared.form.ListForm.{ListForm}
-use Rattle.app_command_line.specs.declared.form.ListForm.TheVariants as list_forms
-use Rattle.app_command_line.specs.declared.form.LongForm.{LongForm}
-use Rattle.app_command_line.specs.declared.form.LongForm.TheVariants as long_forms
-use Rattle.app_command_line.specs.declared.length.Length.TheVariants.{Any, Limited}
+use Rattle.app_orders.specs.declared.form.ListForm.{ListForm}
+use Rattle.app_orders.specs.declared.form.ListForm.TheVariants as list_forms
+use Rattle.app_orders.specs.declared.form.LongForm.{LongForm}
+use Rattle.app_orders.specs.declared.form.LongForm.TheVariants as long_forms
+use Rattle.app_orders.specs.declared.length.Length.TheVariants.{Any, Limited}
 use Rattle.app_findings.specs.declared.finding.Finding.TheVariants.{Met, Shown, Present, Unexplained}
 use Rattle.app_findings.specs.declared.finding.Findings.{Findings}
 use Rattle.app_findings.specs.declared.kept.Kept.{Kept}

@@ -8,7 +8,7 @@ use Rattle.cert_check.specs.declared.criterion.Criterion.{Criterion}
 use Rattle.cert_check.specs.declared.criterion.Criterion.TheVariants.{Cc, Cm, Ccv}
 use Rattle.cert_check.specs.CertificateForm.{form_of as certificate_form}
 use Rattle.cert_check.specs.CriterionNames.{name_of}
-use Rattle.app_command_line.specs.declared.length.Length.TheVariants.{Limited}
+use Rattle.app_orders.specs.declared.length.Length.TheVariants.{Limited}
 use Rattle.app_findings.specs.declared.finding.Finding.{Finding}
 use Rattle.app_findings.specs.declared.finding.Finding.TheVariants.{Met, Shown, Present, Unexplained}
 use Rattle.app_findings.specs.declared.finding.Findings.{Findings}

@@ -11,8 +11,8 @@ use Rattle.cert_check.specs.declared.criterion.Criterion.{Criterion}
 use Rattle.cert_check.specs.Criteria.{Meets}
 use Rattle.judge_subhistories.specs.Cores.{IsCoreText}
 use Rattle.judge_subhistories.specs.WithoutVariables.{without_variables}
-use Rattle.app_command_line.specs.declared.length.Length.{Length}
-use Rattle.app_command_line.specs.declared.length.Length.TheVariants.{Limited, Any}
+use Rattle.app_orders.specs.declared.length.Length.{Length}
+use Rattle.app_orders.specs.declared.length.Length.TheVariants.{Limited, Any}
 
 -- a line behind two spaces, with its line feed
 abbrev pub indented : List ℕ → List ℕ

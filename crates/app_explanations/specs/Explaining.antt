@@ -11,8 +11,8 @@ use Rattle.cert_check.specs.declared.criterion.Criterion.TheVariants.{Cc, Cm, Cc
 use Rattle.cert_check.specs.CriterionNames.{name_of}
 use Rattle.pattern_check.specs.KindNames.{kind_name}
 use Rattle.pattern_json.specs.PatternForm.{form_of as pattern_form, op_form}
-use Rattle.app_command_line.specs.declared.length.Length.{Length}
-use Rattle.app_command_line.specs.declared.length.Length.TheVariants.{Limited}
+use Rattle.app_orders.specs.declared.length.Length.{Length}
+use Rattle.app_orders.specs.declared.length.Length.TheVariants.{Limited}
 use Rattle.app_findings.specs.declared.finding.Finding.{Finding}
 use Rattle.app_findings.specs.declared.finding.Finding.TheVariants.{Met, Shown, Present, Unexplained}
 use Rattle.app_findings.specs.declared.finding.Findings.{Findings}

@@ -5,8 +5,8 @@ use Rattle.json_histories.specs.declared.any_history.AnyHistory.{AnyHistory}
 use Rattle.json_histories.specs.AnyForm.{form_of, IsJson}
 use Rattle.cert_check.specs.declared.criterion.Criterion.{Criterion}
 use Rattle.cert_check.specs.declared.criterion.Criterion.TheVariants.{Cc, Cm, Ccv}
-use Rattle.app_command_line.specs.declared.length.Length.{Length}
-use Rattle.app_command_line.specs.declared.length.Length.TheVariants.{Limited}
+use Rattle.app_orders.specs.declared.length.Length.{Length}
+use Rattle.app_orders.specs.declared.length.Length.TheVariants.{Limited}
 use Rattle.app_explanations.specs.CoresInWords.{AreWordsOn}
 use Rattle.app_explanations.specs.Lengths.{IsHistoryOf}
 use Rattle.app_findings.specs.declared.finding.Findings.{Findings}

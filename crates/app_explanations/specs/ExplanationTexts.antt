@@ -1,10 +1,10 @@
 -- What is written of a history, which may be of any length, in each form.
 use Rattle.std.specs.Prelude.{◌≡◌, ℕ, List, ◌++◌, codes}
 use Rattle.serde_json.specs.Written.{compact_text}
-use Rattle.app_command_line.specs.declared.form.LongForm.{LongForm}
-use Rattle.app_command_line.specs.declared.form.LongForm.TheVariants.{Words, Json, Picture}
-use Rattle.app_command_line.specs.declared.length.Length.{Length}
-use Rattle.app_command_line.specs.declared.length.Length.TheVariants.{Any}
+use Rattle.app_orders.specs.declared.form.LongForm.{LongForm}
+use Rattle.app_orders.specs.declared.form.LongForm.TheVariants.{Words, Json, Picture}
+use Rattle.app_orders.specs.declared.length.Length.{Length}
+use Rattle.app_orders.specs.declared.length.Length.TheVariants.{Any}
 use Rattle.json_histories.specs.declared.any_history.AnyHistory.{AnyHistory}
 use Rattle.json_histories.specs.AnyForm.{IsJson}
 use Rattle.show_pictures.specs.Markup.{IsSvgElement}

@@ -1,8 +1,8 @@
 -- Histories within the limits of a history, of any object, and memory histories of any length.
 use Rattle.std.specs.Prelude.{ℕ, List, Option}
 use Rattle.serde_json.specs.Data.{Data}
-use Rattle.app_command_line.specs.declared.length.Length.{Length}
-use Rattle.app_command_line.specs.declared.length.Length.TheVariants.{Limited, Any}
+use Rattle.app_orders.specs.declared.length.Length.{Length}
+use Rattle.app_orders.specs.declared.length.Length.TheVariants.{Limited, Any}
 use Rattle.json_histories.specs.declared.any_history.AnyHistory.{AnyHistory}
 use Rattle.json_histories.specs.declared.any_history.AnyHistory.TheVariants.{Memory}
 use Rattle.json_histories.specs.declared.read_error.ReadError.{ReadError}

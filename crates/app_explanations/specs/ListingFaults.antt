@@ -9,10 +9,10 @@ use Rattle.order_memory.specs.Memory.{MemoryHistory}
 use Rattle.show_faults.specs.declared.tally.Faults.{Faults}
 use Rattle.show_faults.specs.Tallies.{IsTallyOf}
 use Rattle.show_faults.specs.FaultsForm.{faults_form}
-use Rattle.app_command_line.specs.declared.form.ListForm.{ListForm}
-use Rattle.app_command_line.specs.declared.form.ListForm.TheVariants.{Words, Json}
-use Rattle.app_command_line.specs.declared.length.Length.{Length}
-use Rattle.app_command_line.specs.declared.listing.Listing.{Listing}
+use Rattle.app_orders.specs.declared.form.ListForm.{ListForm}
+use Rattle.app_orders.specs.declared.form.ListForm.TheVariants.{Words, Json}
+use Rattle.app_orders.specs.declared.length.Length.{Length}
+use Rattle.app_orders.specs.declared.listing.Listing.{Listing}
 use Rattle.app_explanations.specs.declared.fault_lists.FaultReport.{FaultReport}
 use Rattle.app_findings.specs.declared.finding.Findings.{Findings}
 use Rattle.app_explanations.specs.declared.clients.Clients.{Clients}

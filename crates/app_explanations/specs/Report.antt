@@ -8,8 +8,8 @@ use Rattle.cert_check.specs.CriterionNames.{name_of}
 use Rattle.pattern_check.specs.KindNames.{kind_name}
 use Rattle.live_case_board.specs.declared.answer.Answer.{Answer}
 use Rattle.live_case_board.specs.declared.answer.Answer.TheVariants.{Yes, No, Unknown, Open}
-use Rattle.app_command_line.specs.declared.length.Length.{Length}
-use Rattle.app_command_line.specs.declared.length.Length.TheVariants.{Limited, Any}
+use Rattle.app_orders.specs.declared.length.Length.{Length}
+use Rattle.app_orders.specs.declared.length.Length.TheVariants.{Limited, Any}
 use Rattle.app_findings.specs.declared.finding.Findings.{Findings}
 use Rattle.app_findings.specs.Findings.{EachIsFinding, EachIsKnownOnDistinctValues, EachIsLongTrueOf, EachIsTrueOf, EachNamesUnexplained, answer_of}
 use Rattle.app_explanations.specs.Lengths.{IsHistoryOf}

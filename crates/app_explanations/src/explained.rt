@@ -2,7 +2,7 @@
 
 ghost use Rattle.std.specs.Prelude.{◌≡◌, IfOk, string_bytes};
 ghost use Rattle.json_histories.specs.AnyForm.{IsAnyHistory};
-ghost use Rattle.app_command_line.specs.declared.length.Length.TheVariants.{Any, Limited};
+ghost use Rattle.app_orders.specs.declared.length.Length.TheVariants.{Any, Limited};
 ghost use Rattle.app_explanations.specs.ExplanationTexts.{IsExplainedAs, IsExplainedBy, IsJsonOf, IsWordsOf};
 ghost use Rattle.app_explanations.specs.Report.{AreFindingsOf};
 
@@ -14,8 +14,8 @@ use crate::long_explaining::{LongFindings, findings_of_long};
 use crate::long_picturing::picture_of_long;
 use crate::long_words::{text_of_long, text_of_small};
 use crate::remarks::remarks_on_patterns;
-use app_command_line::LongForm;
 use app_findings::{Findings, Kept, PieceWork, findings_of_memory};
+use app_orders::LongForm;
 use json_histories::{AnyHistory, History};
 use judge_decision::SessionWork;
 use judge_memory::LongHistory;

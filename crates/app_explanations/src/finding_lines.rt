@@ -1,7 +1,7 @@
 //! The lines that say why a criterion is met, not met, or unknown.
 
 ghost use Rattle.std.specs.Prelude.{◌≡◌, IfOk, IfSome, None, string_bytes};
-ghost use Rattle.app_command_line.specs.declared.length.Length.TheVariants.{Limited};
+ghost use Rattle.app_orders.specs.declared.length.Length.TheVariants.{Limited};
 ghost use Rattle.app_explanations.specs.CoresInWords.{IsTextOfCore};
 ghost use Rattle.app_explanations.specs.Steps.Examining.{history_of};
 

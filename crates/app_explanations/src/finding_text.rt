@@ -4,7 +4,7 @@ ghost use Rattle.std.specs.Prelude.{◌≡◌, ◌↔◌, ◌+◌, ◌++◌, ◌
 ghost use Rattle.std.specs.Str.Iter.{LacksByte};
 ghost use Rattle.json_histories.specs.declared.any_history.AnyHistory.{AnyHistory as Whole};
 ghost use Rattle.cert_check.specs.declared.criterion.Criterion.{Criterion as ACriterion};
-ghost use Rattle.app_command_line.specs.declared.length.Length.{Length};
+ghost use Rattle.app_orders.specs.declared.length.Length.{Length};
 ghost use Rattle.app_explanations.specs.CoresInWords.{AreWordsOn, IsTextOfCore, core_words, indented};
 ghost use Rattle.app_explanations.specs.ExplainingInWords.{Tells};
 ghost use Rattle.app_explanations.specs.Steps.ShortTexts.{IsIndentedUpTo};

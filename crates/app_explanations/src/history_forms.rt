@@ -2,7 +2,7 @@
 
 ghost use Rattle.std.specs.Prelude.{IfOk, string_bytes};
 ghost use Rattle.show_pictures.specs.Markup.{IsSvgElement};
-ghost use Rattle.app_command_line.specs.declared.length.Length.TheVariants.{Limited};
+ghost use Rattle.app_orders.specs.declared.length.Length.TheVariants.{Limited};
 ghost use Rattle.app_explanations.specs.Certifying.{EachIsEvidence};
 ghost use Rattle.app_explanations.specs.ExplanationTexts.{IsCertifiedJsonOf, IsJsonOf};
 ghost use Rattle.app_explanations.specs.Report.{AreFindingsOf};

@@ -1,7 +1,7 @@
 //! What is found of a history within the limits, in words.
 
 ghost use Rattle.std.specs.Prelude.{IfOk, string_bytes};
-ghost use Rattle.app_command_line.specs.declared.length.Length.TheVariants.{Limited};
+ghost use Rattle.app_orders.specs.declared.length.Length.TheVariants.{Limited};
 ghost use Rattle.app_explanations.specs.ExplainingInWords.{TellsEach};
 ghost use Rattle.app_explanations.specs.ExplanationTexts.{IsWordsOf};
 ghost use Rattle.app_explanations.specs.Steps.Examining.{history_of};

@@ -1,6 +1,6 @@
 //! Laws of what is found of a history: the contract of each function is the law, and the function does nothing.
 
-ghost use Rattle.app_command_line.specs.declared.length.Length.{Length};
+ghost use Rattle.app_orders.specs.declared.length.Length.{Length};
 ghost use Rattle.app_explanations.specs.Agreeing.{Agree};
 ghost use Rattle.app_explanations.specs.Report.{IsReportOf};
 

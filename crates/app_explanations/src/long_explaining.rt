@@ -5,7 +5,7 @@ ghost use Rattle.json_histories.specs.AnyForm.{IsAnyHistory};
 ghost use Rattle.order_memory.specs.Memory.{IsDifferentiated, MemoryHistory};
 ghost use Rattle.pattern_check.specs.Patterns.{IsShownBy, kind_of};
 ghost use Rattle.judge_decision.specs.LongDecisions.{AreDecided, IsLongDecided};
-ghost use Rattle.app_command_line.specs.declared.length.Length.TheVariants.{Any};
+ghost use Rattle.app_orders.specs.declared.length.Length.TheVariants.{Any};
 ghost use Rattle.app_explanations.specs.Report.{AreFindingsOf};
 ghost use Rattle.app_explanations.specs.Steps.Gathering.{ExcludesCriteria};
 ghost use Rattle.app_explanations.specs.Steps.LongFound.{IsLongFound};

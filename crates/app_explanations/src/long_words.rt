@@ -3,7 +3,7 @@
 ghost use Rattle.std.specs.Prelude.{◌≡◌, IfOk, IfSome, IsTrue, None, string_bytes};
 ghost use Rattle.json_histories.specs.AnyForm.{IsJson, form_of};
 ghost use Rattle.pattern_check.specs.Kinds.{is_against};
-ghost use Rattle.app_command_line.specs.declared.length.Length.TheVariants.{Any, Limited};
+ghost use Rattle.app_orders.specs.declared.length.Length.TheVariants.{Any, Limited};
 ghost use Rattle.app_findings.specs.Findings.{IsFinding};
 ghost use Rattle.app_explanations.specs.CoresInWords.{IsTextOfCore, IsTextOfNo};
 ghost use Rattle.app_explanations.specs.ExplainingInWords.{TellsEach};

@@ -1,7 +1,7 @@
 //! The lines on parts of a history that do not meet a criterion by themselves.
 
 ghost use Rattle.std.specs.Prelude.{IfOk, IfSome, string_bytes};
-ghost use Rattle.app_command_line.specs.declared.length.Length.TheVariants.{Limited};
+ghost use Rattle.app_orders.specs.declared.length.Length.TheVariants.{Limited};
 ghost use Rattle.judge_subhistories.specs.Cores.{IsCoreText};
 ghost use Rattle.app_explanations.specs.CoresInWords.{IsTextOfCore};
 

@@ -3,7 +3,7 @@
 ghost use Rattle.std.specs.Prelude.{◌≡◌, IfOk, IfSome, Some, string_bytes};
 ghost use Rattle.json_histories.specs.declared.any_history.AnyHistory.{AnyHistory as Whole};
 ghost use Rattle.cert_check.specs.declared.criterion.Criterion.TheVariants.{Cc, Ccv, Cm};
-ghost use Rattle.app_command_line.specs.declared.length.Length.{Length};
+ghost use Rattle.app_orders.specs.declared.length.Length.{Length};
 ghost use Rattle.app_explanations.specs.CoresInWords.{IsTextOfCore};
 ghost use Rattle.app_explanations.specs.ExplainingInWords.{TellsEach};
 

@@ -5,7 +5,8 @@ ghost use Rattle.cert_check.specs.Certificates.{criterion_of};
 ghost use Rattle.app_findings.specs.declared.kept.Kept.TheVariants.{Certificates};
 ghost use Rattle.app_findings.specs.Findings.{KeepsCertificate};
 ghost use Rattle.app_findings.specs.Pieces.{HasShape};
-ghost use Rattle.app_findings.specs.Steps.FoundByCertificate.{IsFoundByCertificate, copy_for, finding_from, kept_of_met, kept_of_unexplained};
+ghost use Rattle.app_findings.specs.Steps.FoundByCertificate.{IsFoundByCertificate, copy_for, finding_from, kept_of_met};
+ghost use Rattle.app_findings.specs.Steps.FoundByCertificate.{kept_of_unexplained};
 
 use crate::finding::Finding;
 use crate::kept::Kept;

@@ -1,9 +1,10 @@
 //! What is known of a history, for each criterion, and what shows it.
 //!
-//! It gives [`Findings`] with [`Finding`], one for each criterion: a pattern, a certificate, or why it is not known. [`findings_of`] makes
-//! them, and keeps as much of what shows them as [`Kept`] says; [`report_on`] and [`report_on_long`] give answers alone. [`PieceWork`]
-//! says who checks the pieces of a certificate: the calling thread, or workers. It uses judge_decision, app_judging, judge_subhistories and the makers of
-//! certificates. How something is found may change: callers rest on the contracts, which say what is true of each finding.
+//! It gives [`Findings`] with [`Finding`], one for each criterion: a pattern, a certificate, or why it is not known.
+//! [`findings_of`] makes them, and keeps as much of what shows them as [`Kept`] says; [`report_on`] and [`report_on_long`] give
+//! answers alone. [`PieceWork`] says who checks the pieces of a certificate: the calling thread, or workers. It uses
+//! judge_decision, app_judging, judge_subhistories and the makers of certificates. How something is found may change: callers
+//! rest on the contracts, which say what is true of each finding.
 #![tactic(auto)]
 
 mod by_certificate;

@@ -1,7 +1,7 @@
 -- Lines on cuts of a log, as the log grows and one cut more is judged.
 use Rattle.std.proofs.Common.{◌≡◌, ◌≤◌, ◌*◌, ℕ, zero, suc, List, [], ◌∷◌, ◌++◌, length, take, inl, inr, refl, sym, ap, subst, ◌∙◌, append_assoc, append-nil, arith}
 use Rattle.std.proofs.lemmas.List.{take-append-le, take_all}
-use Rattle.app_command_line.specs.declared.expected.Expected.{Expected}
+use Rattle.app_orders.specs.declared.expected.Expected.{Expected}
 use Rattle.json_lines.specs.declared.outcome.Outcome.{Outcome}
 use Rattle.json_lines.specs.declared.outcome.Outcome.TheVariants.{Met, Unknown, Excluded, Refused}
 use Rattle.json_lines.specs.Outcomes.{worse}

@@ -1,8 +1,8 @@
 -- The lines of a report on a log are true of its history.
 use Rattle.std.proofs.Common.{ℕ, List, Option}
-use Rattle.app_command_line.specs.declared.length.Length.TheVariants.{Any}
-use Rattle.app_command_line.specs.declared.log_order.LogJudging.{LogJudging}
-use Rattle.app_command_line.specs.declared.log_order.LogOrder.TheVariants.{Judge}
+use Rattle.app_orders.specs.declared.length.Length.TheVariants.{Any}
+use Rattle.app_orders.specs.declared.log_order.LogJudging.{LogJudging}
+use Rattle.app_orders.specs.declared.log_order.LogOrder.TheVariants.{Judge}
 use Rattle.log_events.specs.Histories.{history_of}
 use Rattle.app_engine.proofs.MemoryLineLaws.{lines_of_report}
 use Rattle.app_logs.specs.declared.following.Followed.{Followed}

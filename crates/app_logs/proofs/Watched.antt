@@ -5,7 +5,7 @@ use Rattle.std.specs.Io.KnownBytes.{Appends, Consumes, IsAtEnd}
 use Rattle.std.proofs.lemmas.Bool.{cases_lt}
 use Rattle.std.proofs.lemmas.List.{length-append}
 use Rattle.std.proofs.KnownBytes.{Appends-nil, Appends-trans, Consumes-nil, Consumes-trans}
-use Rattle.app_command_line.specs.declared.expected.Expected.{Expected}
+use Rattle.app_orders.specs.declared.expected.Expected.{Expected}
 use Rattle.json_lines.specs.declared.outcome.Outcome.{Outcome}
 use Rattle.json_lines.specs.declared.outcome.Outcome.TheVariants.{Met}
 use Rattle.log_events.specs.declared.event.Event.{Event}

@@ -1,8 +1,8 @@
 -- What is answered to a log in memory, and when it has no answer.
 use Rattle.std.specs.Prelude.{⊤, ℕ, List, Bool, None}
-use Rattle.app_command_line.specs.Expected.{expecting_nothing}
-use Rattle.app_command_line.specs.declared.log_order.LogJudging.{LogJudging}
-use Rattle.app_command_line.specs.declared.log_order.LogOrder.{LogOrder}
+use Rattle.app_orders.specs.Expected.{expecting_nothing}
+use Rattle.app_orders.specs.declared.log_order.LogJudging.{LogJudging}
+use Rattle.app_orders.specs.declared.log_order.LogOrder.{LogOrder}
 use Rattle.json_lines.specs.declared.outcome.Outcome.{Outcome}
 use Rattle.log_reader.specs.Logs.{IsLogOf, IsRefusedLog, Log}
 use Rattle.app_logs.specs.declared.failure.LogError.{LogError}

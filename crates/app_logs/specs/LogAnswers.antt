@@ -2,10 +2,10 @@
 use Rattle.std.specs.Prelude.{◌≡◌, ◌≢◌, ◌⊎◌, ◌≤◌, ◌<◌, ⊤, ◌*◌, ℕ, suc, List, ◌++◌, false, Option, None, Some, IfSome, codes, length}
 use Rattle.std.specs.Io.KnownBytes.{Appends, IsAtEnd}
 use Rattle.serde_json.specs.Written.{compact_text}
-use Rattle.app_command_line.specs.declared.expected.Expected.{Expected}
-use Rattle.app_command_line.specs.Expected.{expecting_nothing}
-use Rattle.app_command_line.specs.declared.log_order.LogOrder.{LogOrder}
-use Rattle.app_command_line.specs.declared.log_order.LogOrder.TheVariants.{Judge, Explain, ListFaults, WriteHistory, WriteNames, WriteNotes}
+use Rattle.app_orders.specs.declared.expected.Expected.{Expected}
+use Rattle.app_orders.specs.Expected.{expecting_nothing}
+use Rattle.app_orders.specs.declared.log_order.LogOrder.{LogOrder}
+use Rattle.app_orders.specs.declared.log_order.LogOrder.TheVariants.{Judge, Explain, ListFaults, WriteHistory, WriteNames, WriteNotes}
 use Rattle.json_lines.specs.declared.outcome.Outcome.{Outcome}
 use Rattle.json_lines.specs.declared.outcome.Outcome.TheVariants.{Met}
 use Rattle.json_histories.specs.AnyForm.{form_of}

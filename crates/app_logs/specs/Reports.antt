@@ -1,7 +1,7 @@
 -- What is said of the history that a log stands for.
 use Rattle.std.specs.Prelude.{◌≡◌, ◌⊎◌, ◌≤◌, ◌<◌, ◌*◌, ℕ, zero, suc, List, [], ◌∷◌, ◌++◌, codes, decimal, take}
-use Rattle.app_command_line.specs.declared.expected.Expected.{Expected}
-use Rattle.app_command_line.specs.declared.length.Length.TheVariants.{Any}
+use Rattle.app_orders.specs.declared.expected.Expected.{Expected}
+use Rattle.app_orders.specs.declared.length.Length.TheVariants.{Any}
 use Rattle.json_histories.specs.declared.any_history.AnyHistory.{AnyHistory}
 use Rattle.json_histories.specs.declared.any_history.AnyHistory.TheVariants as histories
 use Rattle.json_lines.specs.declared.outcome.Outcome.{Outcome}

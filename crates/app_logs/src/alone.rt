@@ -8,8 +8,8 @@ use crate::answering::{answer_to, shows_notes};
 use crate::failure::LogError;
 use crate::logged_run::LoggedRun;
 use crate::reading::{WholeLog, read_log};
-use app_command_line::{Expected, LogJudging, LogOrder};
 use app_engine::{Answered, CallingThread, Workers};
+use app_orders::{Expected, LogJudging, LogOrder};
 use std::alloc::Global;
 
 /// How a log is judged once, and nothing is expected of it.

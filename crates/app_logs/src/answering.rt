@@ -13,11 +13,11 @@ use crate::logged_run::LoggedRun;
 use crate::noting::notes_text;
 use crate::reading::{WholeLog, read_log};
 use crate::writing::{history_text, names_text};
-use app_command_line::{LogJudging, LogOrder};
 use app_engine::{
     Answered, Findings, PieceWork, SessionWork, WorkerThreads, Workers, outcome_of, report_text,
     write_output,
 };
+use app_orders::{LogJudging, LogOrder};
 use json_lines::Source;
 use log_reader::EventReader;
 use std::alloc::Global;

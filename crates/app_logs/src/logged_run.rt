@@ -16,11 +16,11 @@ use crate::line_numbers::lines_text;
 use crate::noting::notes_text;
 use crate::reading::{WholeLog, read_log};
 use crate::writing::{history_text, names_text};
-use app_command_line::{LogJudging, LogOrder};
 use app_engine::{
     Answered, Findings, PieceWork, RunError, SessionWork, explained_as, list_in_long,
     report_on_long,
 };
+use app_orders::{LogJudging, LogOrder};
 use json_lines::Source;
 use judge_memory::LongHistory;
 use log_events::LoggedCall;

@@ -1,9 +1,9 @@
 -- What is answered makes a page.
 use Rattle.std.proofs.Common.{◌≡◌, ◌-◌, ℕ, List, codes, refl}
-use Rattle.app_command_line.specs.declared.form.ListForm.TheVariants as list_forms
-use Rattle.app_command_line.specs.declared.form.LongForm.TheVariants as long_forms
-use Rattle.app_command_line.specs.declared.length.Length.{Length}
-use Rattle.app_command_line.specs.declared.log_order.LogOrder.TheVariants.{Explain, ListFaults, WriteHistory, WriteNames, WriteNotes}
+use Rattle.app_orders.specs.declared.form.ListForm.TheVariants as list_forms
+use Rattle.app_orders.specs.declared.form.LongForm.TheVariants as long_forms
+use Rattle.app_orders.specs.declared.length.Length.{Length}
+use Rattle.app_orders.specs.declared.log_order.LogOrder.TheVariants.{Explain, ListFaults, WriteHistory, WriteNames, WriteNotes}
 use Rattle.app_engine.specs.Running.{IsOutput}
 use Rattle.log_reader.specs.Logs.{Log}
 use Rattle.show_page.specs.Pages.{page, said}

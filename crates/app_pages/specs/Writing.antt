@@ -4,14 +4,14 @@ use Rattle.std.specs.Io.KnownBytes.{Appends}
 use Rattle.serde_json.specs.Data.{Data}
 use Rattle.serde_json.specs.Find.{as_number, as_u64, pointer}
 use Rattle.serde_json.specs.Read.{read}
-use Rattle.app_command_line.specs.declared.form.Form.TheVariants as forms
-use Rattle.app_command_line.specs.declared.form.ListForm.TheVariants as list_forms
-use Rattle.app_command_line.specs.declared.form.LongForm.TheVariants as long_forms
-use Rattle.app_command_line.specs.declared.length.Length.{Length}
-use Rattle.app_command_line.specs.declared.length.Length.TheVariants.{Limited, Any}
-use Rattle.app_command_line.specs.declared.log_order.LogOrder.TheVariants as logs
-use Rattle.app_command_line.specs.declared.order.Order.{Order}
-use Rattle.app_command_line.specs.declared.order.Order.TheVariants.{Explain, ExplainLong, ListFaults}
+use Rattle.app_orders.specs.declared.form.Form.TheVariants as forms
+use Rattle.app_orders.specs.declared.form.ListForm.TheVariants as list_forms
+use Rattle.app_orders.specs.declared.form.LongForm.TheVariants as long_forms
+use Rattle.app_orders.specs.declared.length.Length.{Length}
+use Rattle.app_orders.specs.declared.length.Length.TheVariants.{Limited, Any}
+use Rattle.app_orders.specs.declared.log_order.LogOrder.TheVariants as logs
+use Rattle.app_orders.specs.declared.order.Order.{Order}
+use Rattle.app_orders.specs.declared.order.Order.TheVariants.{Explain, ExplainLong, ListFaults}
 use Rattle.app_engine.specs.declared.input.TheConstants.{MAX_INPUT_BYTES}
 use Rattle.app_engine.specs.Running.{IsOfInput, IsOutput}
 use Rattle.json_lines.specs.declared.outcome.Outcome.TheVariants.{Met}

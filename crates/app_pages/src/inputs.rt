@@ -9,11 +9,11 @@ ghost use Rattle.app_pages.specs.Writing.{IsPageOfInput, IsSaidOfInput, WritesPa
 ghost use Rattle.app_pages.specs.Writing.{list_order, listing_order, picture_order, words_order};
 
 use crate::counting::reads_counted;
-use app_command_line::{Form, Length, ListForm, Listing, LongForm};
 use app_engine::{
     MAX_READ_CALLS, PieceWork, RunError, SessionWork, WorkerThreads, Workers, explain_as,
     explain_long, list_faults, read_input_for, write_output,
 };
+use app_orders::{Form, Length, ListForm, Listing, LongForm};
 use json_lines::Source;
 use show_page::{MOST_SAID, PageTexts, page_of, said_of};
 use std::alloc::{AllocError, Global};

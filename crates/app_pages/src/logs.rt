@@ -10,11 +10,11 @@ ghost use Rattle.app_pages.specs.Steps.Answers.{IsAnswerTo};
 
 use crate::counting::reads_counted;
 use crate::failure::PageError;
-use app_command_line::{ListForm, LogOrder, LongForm};
 use app_engine::{
     MAX_READ_CALLS, PieceWork, SessionWork, WorkerThreads, Workers, read_input, write_output,
 };
 use app_logs::{Followed, LogError, LoggedRun, run_in_memory};
+use app_orders::{ListForm, LogOrder, LongForm};
 use json_lines::{Outcome, Source};
 use show_page::{MOST_SAID, PageTexts, page_of, said_of};
 use std::alloc::Global;

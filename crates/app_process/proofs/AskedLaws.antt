@@ -3,16 +3,16 @@ use Rattle.std.specs.Prelude.{◌≡◌, ◌⊎◌, ℕ, List, [], ◌∷◌, Bo
 use Rattle.std.proofs.Common.{◌≤◌, ◌<◌, length, drop, map, inl, inr, sym, subst, arith}
 use Rattle.clap.specs.Words.{Text, fault_of}
 use Rattle.app_command_line.specs.CommandLine.{AsksNothing, IsCommandLine, IsUsageFor, command_line}
-use Rattle.app_command_line.specs.declared.detail.Detail.{Detail}
+use Rattle.app_orders.specs.declared.detail.Detail.{Detail}
 use Rattle.app_command_line.specs.Options.{AreFiles}
-use Rattle.app_command_line.specs.declared.order.Usage.{Usage}
+use Rattle.app_command_line.specs.declared.command.Usage.{Usage}
 use Rattle.app_command_line.specs.declared.sight.Sight.TheVariants.{Unseen}
 use Rattle.app_process.specs.declared.terminals.Terminals.{Terminals}
-use Rattle.app_command_line.specs.declared.line_judging.LineJudging.{LineJudging}
-use Rattle.app_command_line.specs.declared.manner.Asked.{Asked}
-use Rattle.app_command_line.specs.declared.manner.Manner.{Manner}
-use Rattle.app_command_line.specs.declared.order.Order.{Order}
-use Rattle.app_command_line.specs.declared.order.Order.TheVariants.{JudgeLines}
+use Rattle.app_orders.specs.declared.line_judging.LineJudging.{LineJudging}
+use Rattle.app_orders.specs.declared.manner.Asked.{Asked}
+use Rattle.app_orders.specs.declared.manner.Manner.{Manner}
+use Rattle.app_orders.specs.declared.order.Order.{Order}
+use Rattle.app_orders.specs.declared.order.Order.TheVariants.{JudgeLines}
 use Rattle.app_process.specs.Dressing.{is_plain, plainly}
 use Rattle.app_process.specs.Endings.{EndsInput, EndsLines, EndsOrder, EndsTask}
 use Rattle.app_process.specs.Process.{EndsAsked, EndsFiles, EndsRun, EndsWords, GoesToFile, GoesToOutput, IsAfterCommand, IsPainted, NamesNoFile}

@@ -2,11 +2,11 @@
 use Rattle.std.specs.Prelude.{◌≡◌, ◌≢◌, ◌⊎◌, ℕ, List, [], Bool, true, false, Option, Some, None, refl}
 use Rattle.std.specs.Io.KnownBytes.{Appends}
 use Rattle.std.proofs.Common.{inl, inr, ap, sym, subst, ◌∙◌}
-use Rattle.app_command_line.specs.declared.detail.Detail.{Detail}
-use Rattle.app_command_line.specs.declared.line_judging.LineJudging.{LineJudging}
-use Rattle.app_command_line.specs.declared.log_order.LogOrder.{LogOrder}
-use Rattle.app_command_line.specs.declared.manner.Manner.{Manner}
-use Rattle.app_command_line.specs.declared.order.Order.{Order}
+use Rattle.app_orders.specs.declared.detail.Detail.{Detail}
+use Rattle.app_orders.specs.declared.line_judging.LineJudging.{LineJudging}
+use Rattle.app_orders.specs.declared.log_order.LogOrder.{LogOrder}
+use Rattle.app_orders.specs.declared.manner.Manner.{Manner}
+use Rattle.app_orders.specs.declared.order.Order.{Order}
 use Rattle.json_lines.specs.declared.outcome.Outcome.{Outcome}
 use Rattle.json_lines.specs.Lines.{AllAreAnswered, FirstAreAnswered}
 use Rattle.json_lines.specs.Outcomes.{status_of_outcome}

@@ -2,8 +2,8 @@
 use Rattle.std.specs.Prelude.{◌≡◌, ℕ, List, [], Bool, true, Option, codes, refl}
 use Rattle.std.specs.Io.KnownBytes.{Appends}
 use Rattle.std.proofs.Common.{inl, inr}
-use Rattle.app_command_line.specs.declared.detail.Detail.{Detail}
-use Rattle.app_command_line.specs.declared.detail.Detail.TheVariants.{Number, Reason}
+use Rattle.app_orders.specs.declared.detail.Detail.{Detail}
+use Rattle.app_orders.specs.declared.detail.Detail.TheVariants.{Number, Reason}
 use Rattle.show_refusals.specs.declared.refusal.Refusal.{Refusal}
 use Rattle.app_engine.specs.declared.failure.RunError.{RunError}
 use Rattle.app_engine.specs.Failure.{failure_status, line_for}

@@ -9,16 +9,16 @@ use Rattle.live_script.specs.declared.script_error.ScriptError.TheVariants as sc
 use Rattle.json_lines.specs.declared.outcome.Outcome.{Outcome}
 use Rattle.json_lines.specs.declared.outcome.Outcome.TheVariants as outcomes
 use Rattle.json_lines.specs.Outcomes.{status_of_outcome}
-use Rattle.app_command_line.specs.declared.manner.Asked.{Asked}
-use Rattle.app_command_line.specs.declared.manner.Manner.{Manner}
-use Rattle.app_command_line.specs.declared.order.Task.{Task}
-use Rattle.app_command_line.specs.declared.order.Task.TheVariants.{OfInput, OfLog, OfPage}
-use Rattle.app_command_line.specs.declared.order.Usage.{Usage}
-use Rattle.app_command_line.specs.declared.order.Usage.TheVariants.{Fault, Help, Memory}
-use Rattle.app_command_line.specs.declared.page.PageOf.{PageOf}
-use Rattle.app_command_line.specs.declared.page.PageOf.TheVariants as pages
-use Rattle.app_command_line.specs.declared.detail.Detail.{Detail}
-use Rattle.app_command_line.specs.declared.detail.Detail.TheVariants.{Reason}
+use Rattle.app_orders.specs.declared.manner.Asked.{Asked}
+use Rattle.app_orders.specs.declared.manner.Manner.{Manner}
+use Rattle.app_orders.specs.declared.order.Task.{Task}
+use Rattle.app_orders.specs.declared.order.Task.TheVariants.{OfInput, OfLog, OfPage}
+use Rattle.app_command_line.specs.declared.command.Usage.{Usage}
+use Rattle.app_command_line.specs.declared.command.Usage.TheVariants.{Fault, Help, Memory}
+use Rattle.app_orders.specs.declared.page.PageOf.{PageOf}
+use Rattle.app_orders.specs.declared.page.PageOf.TheVariants as pages
+use Rattle.app_orders.specs.declared.detail.Detail.{Detail}
+use Rattle.app_orders.specs.declared.detail.Detail.TheVariants.{Reason}
 use Rattle.app_command_line.specs.declared.sight.Sight.{Sight}
 use Rattle.app_command_line.specs.declared.sight.Sight.TheVariants.{Unseen}
 use Rattle.show_refusals.specs.declared.refusal.Refusal.{Refusal}

@@ -6,7 +6,7 @@ use Rattle.std.proofs.Common.{inl, inr, ap, sym, subst, ◌∙◌, append-nil, a
 use Rattle.clap.specs.Words.{Text}
 use Rattle.app_command_line.specs.CommandLine.{AsksNothing, IsCommandLine}
 use Rattle.app_command_line.specs.Options.{AreFiles}
-use Rattle.app_command_line.specs.declared.manner.Asked.{Asked}
+use Rattle.app_orders.specs.declared.manner.Asked.{Asked}
 use Rattle.app_command_line.specs.declared.sight.Sight.{Sight}
 use Rattle.app_command_line.specs.declared.sight.Sight.TheVariants.{Unseen}
 use Rattle.app_process.specs.declared.terminals.Terminals.{Terminals}

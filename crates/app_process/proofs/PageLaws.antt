@@ -2,9 +2,9 @@
 use Rattle.std.specs.Prelude.{◌≡◌, ◌≢◌, ℕ, List, Bool, Option, refl}
 use Rattle.std.specs.Io.KnownBytes.{Appends}
 use Rattle.std.proofs.Common.{inl, inr, ap}
-use Rattle.app_command_line.specs.declared.detail.Detail.{Detail}
-use Rattle.app_command_line.specs.declared.length.Length.{Length}
-use Rattle.app_command_line.specs.declared.page.PageOf.TheVariants as pages
+use Rattle.app_orders.specs.declared.detail.Detail.{Detail}
+use Rattle.app_orders.specs.declared.length.Length.{Length}
+use Rattle.app_orders.specs.declared.page.PageOf.TheVariants as pages
 use Rattle.app_engine.specs.declared.failure.RunError.{RunError}
 use Rattle.app_engine.specs.declared.failure.RunError.TheVariants as failures
 use Rattle.app_engine.specs.declared.input.TheConstants.{MAX_INPUT_BYTES}

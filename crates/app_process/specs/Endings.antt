@@ -1,19 +1,19 @@
 -- How a run of one task ends: what is known of its input, of its output and of standard error before and after it, and its exit status.
 use Rattle.std.specs.Prelude.{◌≡◌, ◌≢◌, ◌⊎◌, ◌++◌, ◌&&◌, ℕ, List, [], Bool, true, false, Option, Some, None, codes, decimal, if◌then◌else◌, is_some}
 use Rattle.std.specs.Io.KnownBytes.{Appends}
-use Rattle.app_command_line.specs.declared.detail.Detail.{Detail}
-use Rattle.app_command_line.specs.declared.detail.Detail.TheVariants.{Reason}
-use Rattle.app_command_line.specs.declared.length.Length.{Length}
-use Rattle.app_command_line.specs.declared.line_judging.LineJudging.{LineJudging}
-use Rattle.app_command_line.specs.declared.log_order.LogOrder.{LogOrder}
-use Rattle.app_command_line.specs.declared.manner.Manner.{Manner}
-use Rattle.app_command_line.specs.declared.order.Order.{Order}
-use Rattle.app_command_line.specs.declared.order.Order.TheVariants.{JudgeLines}
-use Rattle.app_command_line.specs.declared.order.Task.{Task}
-use Rattle.app_command_line.specs.declared.order.Task.TheVariants.{OfInput, OfLog, OfPage}
-use Rattle.app_command_line.specs.declared.page.Page.{Page}
-use Rattle.app_command_line.specs.declared.page.PageOf.{PageOf}
-use Rattle.app_command_line.specs.declared.page.PageOf.TheVariants as pages
+use Rattle.app_orders.specs.declared.detail.Detail.{Detail}
+use Rattle.app_orders.specs.declared.detail.Detail.TheVariants.{Reason}
+use Rattle.app_orders.specs.declared.length.Length.{Length}
+use Rattle.app_orders.specs.declared.line_judging.LineJudging.{LineJudging}
+use Rattle.app_orders.specs.declared.log_order.LogOrder.{LogOrder}
+use Rattle.app_orders.specs.declared.manner.Manner.{Manner}
+use Rattle.app_orders.specs.declared.order.Order.{Order}
+use Rattle.app_orders.specs.declared.order.Order.TheVariants.{JudgeLines}
+use Rattle.app_orders.specs.declared.order.Task.{Task}
+use Rattle.app_orders.specs.declared.order.Task.TheVariants.{OfInput, OfLog, OfPage}
+use Rattle.app_orders.specs.declared.page.Page.{Page}
+use Rattle.app_orders.specs.declared.page.PageOf.{PageOf}
+use Rattle.app_orders.specs.declared.page.PageOf.TheVariants as pages
 use Rattle.json_lines.specs.declared.outcome.Outcome.{Outcome}
 use Rattle.json_lines.specs.declared.outcome.Outcome.TheVariants.{Excluded}
 use Rattle.json_lines.specs.Lines.{AllAreAnswered, FirstAreAnswered}

@@ -1,12 +1,12 @@
 -- What is said of a run that failed, and its status.
 use Rattle.std.specs.Prelude.{◌≡◌, ◌⊎◌, ◌++◌, ℕ, List, [], Bool, true, Option, Some, None, codes}
 use Rattle.std.specs.Io.KnownBytes.{Appends}
-use Rattle.app_command_line.specs.declared.detail.Detail.{Detail}
-use Rattle.app_command_line.specs.declared.detail.Detail.TheVariants.{Number, Reason}
-use Rattle.app_command_line.specs.declared.length.Length.{Length}
-use Rattle.app_command_line.specs.declared.length.Length.TheVariants as lengths
-use Rattle.app_command_line.specs.declared.order.Order.{Order}
-use Rattle.app_command_line.specs.declared.order.Order.TheVariants as orders
+use Rattle.app_orders.specs.declared.detail.Detail.{Detail}
+use Rattle.app_orders.specs.declared.detail.Detail.TheVariants.{Number, Reason}
+use Rattle.app_orders.specs.declared.length.Length.{Length}
+use Rattle.app_orders.specs.declared.length.Length.TheVariants as lengths
+use Rattle.app_orders.specs.declared.order.Order.{Order}
+use Rattle.app_orders.specs.declared.order.Order.TheVariants as orders
 use Rattle.json_histories.specs.declared.read_error.ReadError.TheVariants as reads
 use Rattle.live_script.specs.declared.script_error.ScriptError.{ScriptError}
 use Rattle.live_script.specs.declared.script_error.ScriptError.TheVariants as scripts

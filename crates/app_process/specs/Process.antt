@@ -3,14 +3,14 @@
 use Rattle.std.specs.Prelude.{◌≡◌, ◌≢◌, ◌⊎◌, ⊤, ℕ, List, [], ◌∷◌, Bool, true, false, Option, Some, None, IfSome}
 use Rattle.clap.specs.Words.{Text, fault_of}
 use Rattle.app_command_line.specs.CommandLine.{AsksNothing, IsCommandLine, IsUsageFor, command_line}
-use Rattle.app_command_line.specs.declared.coloring.Coloring.{Coloring}
-use Rattle.app_command_line.specs.declared.coloring.Coloring.TheVariants.{Auto, Always, Never}
-use Rattle.app_command_line.specs.declared.detail.Detail.{Detail}
-use Rattle.app_command_line.specs.declared.manner.Asked.{Asked}
-use Rattle.app_command_line.specs.declared.order.Task.TheVariants.{OfPage}
-use Rattle.app_command_line.specs.declared.page.Page.{Page}
+use Rattle.app_orders.specs.declared.coloring.Coloring.{Coloring}
+use Rattle.app_orders.specs.declared.coloring.Coloring.TheVariants.{Auto, Always, Never}
+use Rattle.app_orders.specs.declared.detail.Detail.{Detail}
+use Rattle.app_orders.specs.declared.manner.Asked.{Asked}
+use Rattle.app_orders.specs.declared.order.Task.TheVariants.{OfPage}
+use Rattle.app_orders.specs.declared.page.Page.{Page}
 use Rattle.app_command_line.specs.Options.{AreFiles}
-use Rattle.app_command_line.specs.declared.order.Usage.{Usage}
+use Rattle.app_command_line.specs.declared.command.Usage.{Usage}
 use Rattle.app_command_line.specs.declared.sight.Sight.{Sight}
 use Rattle.app_command_line.specs.declared.sight.Sight.TheVariants.{Unseen}
 use Rattle.app_process.specs.declared.terminals.Terminals.{Terminals}

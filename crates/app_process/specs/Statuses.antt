@@ -1,6 +1,6 @@
 -- Exit statuses, by what comes of a run.
 use Rattle.std.specs.Prelude.{◌==◌, ◌&&◌, ◌||◌, ℕ, Bool, true, false, Option, Some, None, is_some, if◌then◌else◌, nat_lt}
-use Rattle.app_command_line.specs.declared.manner.Manner.{Manner}
+use Rattle.app_orders.specs.declared.manner.Manner.{Manner}
 
 -- how bad a status is: wrong words, then want of memory, then a fault of reading or writing, then a refusal, then a criterion that is
 -- not met, and then one of which nothing is known

@@ -2,8 +2,8 @@
 use Rattle.std.specs.Prelude.{◌≡◌, ◌⊎◌, ◌++◌, ℕ, List, [], Bool, true, None, codes, nat_eq, string_bytes}
 use Rattle.std.specs.List.{starts_with}
 use Rattle.std.specs.Io.KnownBytes.{Appends}
-use Rattle.app_command_line.specs.declared.order.Usage.{Usage}
-use Rattle.app_command_line.specs.declared.order.Usage.TheVariants.{Fault, Help, Memory}
+use Rattle.app_command_line.specs.declared.command.Usage.{Usage}
+use Rattle.app_command_line.specs.declared.command.Usage.TheVariants.{Fault, Help, Memory}
 use Rattle.json_lines.specs.Lines.{ended}
 use Rattle.show_refusals.specs.Lines.{BeginsWith}
 use Rattle.app_engine.specs.declared.failure.RunError.TheVariants as failures

@@ -4,7 +4,8 @@ ghost use Rattle.std.specs.Prelude.{MatchOption, map, string_bytes};
 ghost use Rattle.app_command_line.specs.CommandLine.{AsksNothing, IsCommandLine};
 ghost use Rattle.app_process.specs.Steps.Choices.{AreChoices, IsChoice};
 
-use app_command_line::{Asked, Sight, asked_in};
+use app_command_line::{Sight, asked_in};
+use app_orders::Asked;
 
 /// What words ask for, by how an input looks. It is found once for all files.
 #[derive(Clone, Copy)]

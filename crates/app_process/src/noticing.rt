@@ -2,7 +2,7 @@
 
 ghost use Rattle.std.specs.Prelude.{◌≡◌};
 
-use app_command_line::BlankLines;
+use app_orders::BlankLines;
 use std::alloc::{AllocError, Global};
 use std::io;
 use std::io::Read;

@@ -3,8 +3,8 @@
 ghost use Rattle.std.specs.Prelude.{◌≡◌, None, IfOk, MatchOption, string_bytes};
 ghost use Rattle.app_process.specs.Failing.{IsReason, form_for, history_form, long_refusal, refusal_for, script_refusal};
 
-use app_command_line::{Length, Order};
 use app_engine::RunError;
+use app_orders::{Length, Order};
 use json_histories::ReadError;
 use live_script::ScriptError;
 use show_refusals::{InputForm, Refusal, reason_for};

@@ -10,8 +10,8 @@ ghost use Rattle.app_process.specs.Saying.{said_lines};
 use crate::place::Place;
 use crate::refused::reason_of;
 use crate::saying::Say;
-use app_command_line::Detail;
 use app_engine::{RunError, fault_line, status_of};
+use app_orders::Detail;
 use show_refusals::InputForm;
 use std::sync::Wait;
 

@@ -7,7 +7,7 @@ use crate::asked_input::{Given, status_said};
 use crate::progress::Progress;
 use crate::progress_view::ProgressView;
 use crate::saying::Say;
-use app_command_line::{Asked, LogOrder, Order, Task};
+use app_orders::{Asked, LogOrder, Order, Task};
 use std::io::{Read, Write};
 use std::rt::{Env, Files};
 use std::sync::Wait;

@@ -7,7 +7,7 @@ ghost use Rattle.app_process.specs.Statuses.{status_after, wants_counts};
 use crate::counting::RunCounts;
 use crate::place::Place;
 use crate::saying::Say;
-use app_command_line::Manner;
+use app_orders::Manner;
 use std::sync::Wait;
 
 // The status where fewer reads were answered than are wanted.

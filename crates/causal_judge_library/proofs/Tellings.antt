@@ -1,10 +1,10 @@
 -- A call tells what came of it.
 use Rattle.std.proofs.Common.{◌≤◌, ◌≡◌, ℕ, List, Some, arith, length, inl, inr, subst}
 use Rattle.std.specs.Prelude.{Result, Ok, Err, IfErr, IfOk, OnOk, String, Vec, string_bytes}
-use Rattle.app_command_line.specs.declared.length.Length.{Length}
-use Rattle.app_command_line.specs.declared.log_order.LogOrder.{LogOrder}
-use Rattle.app_command_line.specs.declared.order.Order.{Order}
-use Rattle.app_command_line.specs.declared.page.TheConstants.{USUAL_LISTED}
+use Rattle.app_orders.specs.declared.length.Length.{Length}
+use Rattle.app_orders.specs.declared.log_order.LogOrder.{LogOrder}
+use Rattle.app_orders.specs.declared.order.Order.{Order}
+use Rattle.app_orders.specs.declared.page.TheConstants.{USUAL_LISTED}
 use Rattle.app_engine.specs.InputLengths.{length_for, most_bytes}
 use Rattle.app_engine.specs.Running.{Fails, IsOfInput, IsOutput}
 use Rattle.app_engine.specs.declared.answered.Answered.{Answered}

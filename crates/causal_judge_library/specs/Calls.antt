@@ -1,9 +1,9 @@
 -- What a call from C answers: a status, a text, and how many bytes the text has.
 use Rattle.std.specs.Prelude.{◌≡◌, ◌⊎◌, ◌≤◌, ◌<◌, ℕ, List, ◌++◌, Bool, codes, drop, length, Some}
-use Rattle.app_command_line.specs.declared.length.Length.{Length}
-use Rattle.app_command_line.specs.declared.log_order.LogOrder.{LogOrder}
-use Rattle.app_command_line.specs.declared.order.Order.{Order}
-use Rattle.app_command_line.specs.declared.page.TheConstants.{USUAL_LISTED}
+use Rattle.app_orders.specs.declared.length.Length.{Length}
+use Rattle.app_orders.specs.declared.log_order.LogOrder.{LogOrder}
+use Rattle.app_orders.specs.declared.order.Order.{Order}
+use Rattle.app_orders.specs.declared.page.TheConstants.{USUAL_LISTED}
 use Rattle.app_engine.specs.Failure.{failure_status, line_for}
 use Rattle.app_engine.specs.InputLengths.{length_for, most_bytes}
 use Rattle.app_engine.specs.Running.{Fails, IsOutput}

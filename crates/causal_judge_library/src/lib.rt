@@ -10,13 +10,13 @@ mod telling;
 #[cfg(test)]
 mod tests;
 
-ghost use Rattle.app_command_line.specs.declared.form.Form.TheVariants.{Json, Picture, Words};
-ghost use Rattle.app_command_line.specs.declared.length.Length.TheVariants.{Limited};
+ghost use Rattle.app_orders.specs.declared.form.Form.TheVariants.{Json, Picture, Words};
+ghost use Rattle.app_orders.specs.declared.length.Length.TheVariants.{Limited};
 ghost use Rattle.app_engine.specs.Alone.{judging_alone};
 ghost use Rattle.causal_judge_library.specs.Calls.{Tells, TellsPage};
 
 use crate::telling::{tell, tell_page};
-use app_command_line::{Form, Length, Order, USUAL_LISTED};
+use app_orders::{Form, Length, Order, USUAL_LISTED};
 use app_pages::input_page_alone;
 use std::alloc::Global;
 

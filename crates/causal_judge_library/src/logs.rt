@@ -1,13 +1,13 @@
 //! The calls on logs of events.
 
-ghost use Rattle.app_command_line.specs.declared.form.LongForm.TheVariants.{Json, Picture, Words};
-ghost use Rattle.app_command_line.specs.declared.log_order.LogOrder.TheVariants.{Explain, Judge, WriteHistory};
+ghost use Rattle.app_orders.specs.declared.form.LongForm.TheVariants.{Json, Picture, Words};
+ghost use Rattle.app_orders.specs.declared.log_order.LogOrder.TheVariants.{Explain, Judge, WriteHistory};
 ghost use Rattle.app_logs.specs.Alone.{judging_once as once};
 ghost use Rattle.causal_judge_library.specs.Calls.{TellsLog, TellsLogPage};
 
 use crate::telling::{tell_log, tell_log_page};
-use app_command_line::{LogOrder, LongForm, USUAL_LISTED};
 use app_logs::{answer_log_alone, judging_once};
+use app_orders::{LogOrder, LongForm, USUAL_LISTED};
 use app_pages::log_page_alone;
 use std::alloc::Global;
 

@@ -1,12 +1,12 @@
 //! The calls on memory histories of any length.
 
-ghost use Rattle.app_command_line.specs.declared.form.LongForm.TheVariants.{Json, Picture, Words};
-ghost use Rattle.app_command_line.specs.declared.length.Length.TheVariants.{Any};
+ghost use Rattle.app_orders.specs.declared.form.LongForm.TheVariants.{Json, Picture, Words};
+ghost use Rattle.app_orders.specs.declared.length.Length.TheVariants.{Any};
 ghost use Rattle.app_engine.specs.Alone.{judging_alone_at};
 ghost use Rattle.causal_judge_library.specs.Calls.{Tells, TellsPage};
 
 use crate::telling::{tell, tell_page};
-use app_command_line::{Length, LongForm, Order, USUAL_LISTED};
+use app_orders::{Length, LongForm, Order, USUAL_LISTED};
 use app_pages::input_page_alone;
 use std::alloc::Global;
 

@@ -1,4 +1,4 @@
--- What a value that is no list stands for.
+-- What a value that is no list represents.
 use Rattle.std.proofs.Common.{◌≡◌, List, [], Bool, BTreeMap, String, Global, string_bytes, ap, ◌∙◌, rules}
 use Rattle.serde_json.specs.Data.{null, boolean, number, string, object, no_members}
 use Rattle.serde_json.specs.View.{members_view, number_view, view}

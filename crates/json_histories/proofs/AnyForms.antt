@@ -25,7 +25,7 @@ use Rattle.json_histories.specs.RegisterForm as register
 use Rattle.json_histories.specs.Laws.RegisterForm as register_laws
 use Rattle.json_histories.specs.SetForm as set
 use Rattle.json_histories.specs.Laws.SetForm as set_laws
-use Rattle.json_histories.specs.Laws.Spelled.{IsSpelling}
+use Rattle.json_histories.specs.Spelled.{IsSpelling}
 use Rattle.json_histories.specs.Spelling.{plain_form, plain_at, keyed_form, keyed_at, table_form, table_at, no_start_form, no_start_at}
 use Rattle.json_histories.specs.Laws.TableForm.{table_again, table_has_no_float}
 use Rattle.json_histories.proofs.AnyHistories.{only_with_name}

@@ -16,6 +16,6 @@ elements_from_array (string s) ds e = absurd cc
 elements_from_array (array es) ds e = let h : es ≡ items_of ds = cc in ap (λ (x : List Data). Some x) (ap listed h ∙ listed-items_of ds)
 elements_from_array (object ms) ds e = absurd cc
 
--- the list of values that stand for these
+-- the list of values that represent these
 pub view_list : (v : Vec Value Global) (ds : List Data) → map view v.items ≡ ds → view (Array v) ≡ list ds
 view_list v ds e = view-Array v ∙ ap list e

@@ -28,7 +28,7 @@ elements (object ms) = None
 abbrev pub whole_number : Data → Option ℕ
 whole_number d = option_and_then as_u64 (as_number d)
 
--- the text `"?"`, which stands for a return that isn't known
+-- the text `"?"`, which represents a return that isn't known
 abbrev pub unknown : Data
 unknown = string (codes "?")
 

@@ -4,6 +4,7 @@ pub mod Form
 pub mod Json
 pub mod Laws
 pub mod LoneForm
+pub mod Memories
 pub mod ObjectNames
 pub mod Places
 pub mod QueueForm
@@ -12,4 +13,5 @@ pub mod Reads
 pub mod Refusals
 pub mod RegisterForm
 pub mod SetForm
+pub mod Spelled
 pub mod Spelling

@@ -7,7 +7,7 @@ use Rattle.serde_json.specs.Find.{as_str}
 use Rattle.model_objects.specs.declared.keyed.KeyedCall.{KeyedCall}
 use Rattle.json_histories.specs.Reads.{number_form, worded}
 
--- the text `"ok"`, which stands for a return that says no more than that the call is done
+-- the text `"ok"`, which represents a return that says no more than that the call is done
 abbrev pub done : Data
 done = string (codes "ok")
 

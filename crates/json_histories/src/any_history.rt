@@ -1,5 +1,8 @@
 //! A history of any of the objects that have a name.
 
+ghost use Rattle.std.specs.Prelude.{◌≡◌, IfNone, IfSome};
+ghost use Rattle.json_histories.specs.Memories.{IsOfAnotherObject};
+
 use crate::plain_history::PlainHistory;
 use model_history::History;
 use model_objects::{AddRemoveSet, Counter, Counters, Memory, Queue, Queues, Register, Sets};
@@ -26,6 +29,23 @@ pub enum AnyHistory {
 }
 
 impl AnyHistory {
+    /// The history, where it is one of a memory.
+    pub fn as_memory(&self) -> Option<&History<Memory>>
+        ensures memory { IfSome result (λ memory. self.now ≡ AnyHistory.Memory memory.now) }
+        ensures other { IfNone result (IsOfAnotherObject self.now) }
+    {
+        match self {
+            AnyHistory::Memory(memory) => Some(memory),
+            AnyHistory::Register(_)
+            | AnyHistory::Counter(_)
+            | AnyHistory::Set(_)
+            | AnyHistory::Queue(_)
+            | AnyHistory::Counters(_)
+            | AnyHistory::Sets(_)
+            | AnyHistory::Queues(_) => None,
+        }
+    }
+
     /// Drops the history. A crate that drops its histories by this call proves no destructor of them.
     pub fn discard(self) {
         drop(self);

@@ -6,8 +6,7 @@ ghost use Rattle.serde_json.specs.View.{view};
 ghost use Rattle.json_histories.specs.LoneForm.{lone_return_form, whole_call_at};
 ghost use Rattle.json_histories.specs.Reads.{IsRead};
 ghost use Rattle.json_histories.specs.Spelling.{rest_form, spelled_at};
-ghost use Rattle.json_histories.specs.Laws.Spelled.{IsSpelling};
-ghost use Rattle.json_histories.specs.Laws.TableForm.{IsStartSpelling};
+ghost use Rattle.json_histories.specs.Spelled.{IsSpelling, IsStartSpelling};
 
 use crate::lone::is_nothing;
 use crate::spelled_start::SpelledStart;

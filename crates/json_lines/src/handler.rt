@@ -24,7 +24,8 @@ pub trait LineHandler {
 
     /// Appends the answer to a line, which may be of any length, and a line feed, and returns the outcome.
     ///
-    /// JSON may be read in the scratch, which one line after the other uses. It fails for want of memory alone, and then the text is as it was.
+    /// JSON may be read in the scratch, which one line after the other uses. It fails for want of memory alone, and then the text
+    /// is as it was.
     fn answer(
         &self,
         scratch: &mut Scratch<Global>,

@@ -40,7 +40,7 @@ module _ (h : MemoryHistory) (writes : List ℕ) (from : ℕ) where
   abbrev is : ℕ → OpId → Type 0
   is k = IsMarked h writes from k
 
-  -- a bit stands for one write
+  -- a bit represents one write
   pub marked-once : (k : ℕ) (a b : OpId) → is k a → is k b → a ≡ b
   marked-once k a b (is_a, at_a) (is_b, at_b) = number-once h a b is_a is_b (same_Some _ _ (sym at_a ∙ at_b))
 

@@ -1,4 +1,4 @@
--- For each write one edge from each session stands for all conflicts of the session with it.
+-- For each write one edge from each session represents all conflicts of the session with it.
 use Rattle.std.specs.Prelude.{◌≡◌, ◌≢◌, ◌⊎◌, ℕ, ◌+◌, ◌-◌, ◌<◌, ◌≤◌, List}
 use Rattle.std.proofs.Common.{arith, refl, ap, sym, ◌∙◌, subst, inl, inr, ⊎_elim}
 use Rattle.std.proofs.lemmas.Bool.{cases_eq}
@@ -120,7 +120,7 @@ module _ (h : MemoryHistory) (t : ℕ) (ends firsts : ℕ → ℕ) where
       pub late-raised : IsLateTable h t ends firsts wider made
       late-raised = record { sound = sound-now; each = each-now }
 
-  -- once all reads are seen, the edges of the table stand for the conflicts
+  -- once all reads are seen, the edges of the table represent the conflicts
   module _ (straight : ¬ IsCyclic h) (column : ArePastEnds h t ends) (are_firsts : AreFirsts h t firsts)
       (clear : ¬ HasOverwrittenReadBy h t) (seen : OpId → Type 0) (all : (w r a : OpId) → IsLastBeside h t ends w r a → seen r)
       (late : ℕ → ℕ) (now : IsLateTable h t ends firsts seen late) where

@@ -1,4 +1,4 @@
--- Edges that stand for the conflicts of writes.
+-- Edges that represent the conflicts of writes.
 use Rattle.std.specs.Prelude.{◌≡◌, ◌⊎◌, ℕ, ◌+◌, ◌<◌, ◌≤◌, Bool, IsTrue}
 use Rattle.model_history.specs.declared.op_id.OpId.{OpId}
 use Rattle.model_history.specs.History.{IsOp, Precedes, number}

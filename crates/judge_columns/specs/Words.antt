@@ -1,4 +1,4 @@
--- Words of 128 bits in lists, by the numbers of operations or variables. The bit k stands for the write at the place from + k of a list.
+-- Words of 128 bits in lists, by the numbers of operations or variables. The bit k represents the write at the place from + k of a list.
 use Rattle.std.specs.Prelude.{◌≡◌, ◌↔◌, ◌⊎◌, ℕ, ◌+◌, ◌<◌, List, Option, Some, MatchOption, slice_get, slice_index_or}
 use Rattle.std.specs.Int.{bit_at}
 use Rattle.model_history.specs.declared.op_id.OpId.{OpId}
@@ -35,7 +35,7 @@ abbrev pub HasNoPast : MemoryHistory → ℕ → Type 0
 HasNoPast h n = (o p : OpId) → IsOp h o → number h o ≡ n → ¬ IsStep h p o
 
 module _ (h : MemoryHistory) (writes : List ℕ) (from : ℕ) where
-  -- the bit k stands for w
+  -- the bit k represents w
   abbrev pub IsMarked : ℕ → OpId → Type 0
   IsMarked k w = IsOp h w × (slice_get writes (from + k) ≡ Some (number h w))
 

@@ -41,10 +41,10 @@ struct SweepClaims {
 
 /// Finds whether writes overwrote what reads after them returned, and edges that represent all conflicts of writes.
 ///
-/// The order is one that [`judge_memory::order_causal`] gives. No thread is started. Fails for want of memory alone. O(n k) for n operations
-/// and k sessions that write, where 128 sessions with one write each count as one. It takes 44 bytes an operation and 4 a variable, or 48
-/// and 16 for sessions with one write, and 8 an edge. There is at most one edge for each write that is read and each session that
-/// writes.
+/// The order is one that [`judge_memory::order_causal`] gives. No thread is started. Fails for want of memory alone. O(n k) for n
+/// operations and k sessions that write, where 128 sessions with one write each count as one. It takes 44 bytes an operation and
+/// 4 a variable, or 48 and 16 for sessions with one write, and 8 an edge. There is at most one edge for each write that is read
+/// and each session that writes.
 pub fn sweep(alloc: Global, index: &LongIndex, order: &[u32]) -> Result<Swept, AllocError>
     requires { IsOrderBy index.now.history [] order.now }
     ensures start { IfOk result (λ s. IsTrue s.has_overwritten_start ↔ HasOverwrittenStart index.now.history) }

@@ -1,9 +1,9 @@
 //! Whether a memory history meets the three criteria.
 //!
-//! [`decide_long`] decides it for a history of any length. For one within the limits of `History`, [`decide`] gives the [`Decision`] for one
-//! criterion, [`decide_all`] the [`Decisions`] for each, and [`laws`] has the law that kinds of patterns decide. The answers of both ways mean
-//! the same. It uses judge_columns and judge_session_orders to decide, and pattern_search to find the pattern that shows a `no`. How it decides
-//! may change: the contracts say only what a decision means.
+//! [`decide_long`] decides it for a history of any length. For one within the limits of `History`, [`decide`] gives the
+//! [`Decision`] for one criterion, [`decide_all`] the [`Decisions`] for each, and [`laws`] has the law that kinds of patterns
+//! decide. The answers of both ways mean the same. It uses judge_columns and judge_session_orders to decide, and pattern_search
+//! to find the pattern that shows a `no`. How it decides may change: the contracts say only what a decision means.
 #![tactic(auto)]
 
 mod deciding;

@@ -1,11 +1,11 @@
-//! The order in which updates are taken in.
+//! The order in which updates are delivered.
 
 ghost use Rattle.std.specs.Prelude.{length, refl, true};
 ghost use Rattle.live_causal_store.specs.Laws.Order.{length_within};
 
 use live_replica::{UpdateOf, UpdateOrder};
 
-/// The order in which updates were taken in: each goes after those taken in before it. Advice reports it.
+/// The order in which updates were delivered: each goes after those delivered before it. Advice reports it.
 #[derive(Clone, Copy, Debug, PartialEq, Eq)]
 pub struct AsDelivered;
 

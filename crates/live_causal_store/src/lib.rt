@@ -1,5 +1,5 @@
 //! The causal store (Ahamad, Neiger, Burns, Kohli and Hutto, "Causal memory", 1995): answers follow the order in which updates
-//! were taken in, and with causal delivery this order respects causality.
+//! were delivered, and with causal delivery this order respects causality.
 //!
 //! It gives [`CausalReplica`], its order [`AsDelivered`], [`delivered`], and the names of replica that callers need. It uses
 //! model_object_trait and live_replica.

@@ -1,4 +1,4 @@
--- How many returns and calls of a lane a plan found, of what stands for the plan.
+-- How many returns and calls of a lane a plan found, of what represents the plan.
 use Rattle.std.proofs.Common.{◌≡◌, ℕ, ◌+◌, ◌≤◌, sym, subst}
 use Rattle.std.specs.Prelude.{Some, slice_get}
 use Rattle.live_cut_plan.specs.declared.lane_plan.LanePlan.{LanePlan}

@@ -1,4 +1,4 @@
--- A state that stands for looks, with one look more.
+-- A state that represents looks, with one look more.
 use Rattle.std.proofs.Common.{◌≡◌, ℕ, ◌≤◌, List, [], ◌∷◌, ◌++◌, length, refl, sym, subst}
 use Rattle.std.specs.Prelude.{Bool, Option, Some, None, slice_index}
 use Rattle.live_cut_plan.specs.declared.cell.Cell.{Cell}

@@ -1,4 +1,4 @@
--- What stands for a plan: the cell that is next, and the state after one more look.
+-- What represents a plan: the cell that is next, and the state after one more look.
 use Rattle.std.proofs.Common.{◌≡◌, ◌≢◌, ℕ, suc, zero, ◌+◌, ◌<◌, ◌≤◌, ◌⊎◌, List, [], ◌∷◌, ◌++◌, length, inl, inr, refl, sym, ◌∙◌, ap, subst, arith, get_or, set, length-set, drop, ◌==◌, ◌&&◌}
 use Rattle.std.proofs.Math.Seq.{drop-cons}
 use Rattle.std.specs.Prelude.{Bool, false, Option, Some, None, slice_get}

@@ -1,4 +1,4 @@
--- What stands for a plan, and what a walk does. (This project's profile.)
+-- What represents a plan, and what a walk does. (This project's profile.)
 use Rattle.std.specs.Prelude.{◌≡◌, ℕ, ◌+◌, ◌<◌, ◌≤◌, Bool, true, false, List, ◌++◌, length, Option, Some, None, slice_get, slice_index}
 use Rattle.live_cut_plan.specs.declared.lane_plan.LanePlan.{LanePlan}
 use Rattle.live_cut_plan.specs.Plans.{Look, Plan, seen_at, was_read, return_cell, call_cell, told_of, fresh_plan, after_looks, Follows, IsFinished}
@@ -23,13 +23,13 @@ pub record IsLanePlan (cap told : ℕ) (returns calls : ℕ → Option Bool) (l 
   pub called : IsColumn calls l.returns (l.returns + l.calls) l.calls_over
   pub quiet : l.returns_over ≡ false → (l.calls ≡ 0) × (l.calls_over ≡ false) × ((i : ℕ) → calls i ≡ None)
 
--- a state stands for a plan: it keeps of each lane what the looks of the plan told
+-- a state represents a plan: it keeps of each lane what the looks of the plan told
 pub record Stands (st : PlanState) (p : Plan) : Type 0 where
   pub many : length st.lanes ≡ p.lanes
   pub cap : st.cap ≡ p.cap
   pub lanes : (s : ℕ) (l : LanePlan) → slice_get st.lanes s ≡ Some l → IsLanePlan p.cap (told_of p s) (λ i. seen_at p.looks (return_cell s i)) (λ i. seen_at p.looks (call_cell s i)) l
 
--- a state stands for looks that a new plan asked for, each at the cell that was next
+-- a state represents looks that a new plan asked for, each at the cell that was next
 pub record StandsForLooks (st : PlanState) : Type 0 where
   pub lanes : ℕ
   pub cap : ℕ

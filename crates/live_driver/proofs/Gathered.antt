@@ -24,7 +24,7 @@ module _ {S C R : Type 0} where
   ]
 
 module _ {S C R : Type 0} (lanes : LanesState S) (stop : Option ℕ) (input : HistoryValue S C R) where
-  -- receipts stand for the calls of the sessions from this one on
+  -- receipts represent the calls of the sessions from this one on
   abbrev pub StandFrom : ℕ → List (ReceiptState C R) → Type 0
   StandFrom n receipts = (o : OpId) (c : C) (known : Option R) → n ≤ o.session → entry input o ≡ Some (c, known) → ¬ StaysOpen stop input o → (j : ℕ) × (r : ReceiptState C R) × (slice_get receipts j ≡ Some r) × StandsFor r o.session o.index c
 

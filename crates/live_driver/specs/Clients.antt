@@ -38,7 +38,7 @@ module _ {C R : Type 0} where
   IsLastReceipt own None = length own.done ≡ 0
   IsLastReceipt own (Some r) = r ≡ receipt_of own
 
-  -- a receipt stands for a call of a session
+  -- a receipt represents a call of a session
   pub record StandsFor (r : ReceiptState C R) (s i : ℕ) (c : C) : Type 0 where
     pub lane : r.lane ≡ s
     pub ret : R
@@ -77,7 +77,7 @@ module _ {S C R : Type 0} where
     pub cells : slice_get lanes.cells own.lane ≡ Some own.cells
     pub calls : StandsIn (begun own.done own.pending) (calls_in input own.lane)
 
-  -- what the client of a session leaves: its receipt is of the lanes and stands for each call but the open one, and its seals are of the lanes
+  -- what the client of a session leaves: its receipt is of the lanes and represents each call but the open one, and its seals are of the lanes
   pub record IsPlayed (lanes : LanesState S) (stop : Option ℕ) (input : HistoryValue S C R) (s : ℕ) (p : PlayedState S C R) : Type 0 where
     pub lane : p.own.lane ≡ s
     pub recorded : IsRecorded lanes input p.own
@@ -103,7 +103,7 @@ module _ {S C R : Type 0} where
   abbrev pub AreAllPlayed : LanesState S → Option ℕ → HistoryValue S C R → List (Result (PlayedState S C R) DriveError) → Type 0
   AreAllPlayed lanes stop input results = (s : ℕ) (p : Result (PlayedState S C R) DriveError) → slice_get results s ≡ Some p → MatchResult p (IsPlayed lanes stop input s) IsGivenUp
 
-  -- receipts stand for all calls of the input but the one that stays open
+  -- receipts represent all calls of the input but the one that stays open
   abbrev pub StandForCalls : Option ℕ → HistoryValue S C R → List (ReceiptState C R) → Type 0
   StandForCalls stop input receipts = (o : OpId) (c : C) (known : Option R) → entry input o ≡ Some (c, known) → ¬ StaysOpen stop input o → (j : ℕ) × (r : ReceiptState C R) × (slice_get receipts j ≡ Some r) × StandsFor r o.session o.index c
 

@@ -1,8 +1,9 @@
 //! Clients that call a replicated store, recorded and sealed while they run.
 //!
 //! It gives [`drive`], which follows a [`DrivePlan`] and returns seals or a [`DriveError`]; steps of a run, such as [`play`] and
-//! [`seals_of`], are public too. The crate uses live_recorder, live_seals, live_replica and judge_workers. No contract states which updates come through
-//! [`Mailboxes`]: how they are sent may change, and so may the threads of the clients, while the contract of [`drive`] holds.
+//! [`seals_of`], are public too. The crate uses live_recorder, live_seals, live_replica and judge_workers. No contract states
+//! which updates come through [`Mailboxes`]: how they are sent may change, and so may the threads of the clients, while the
+//! contract of [`drive`] holds.
 #![tactic(auto)]
 
 mod client;

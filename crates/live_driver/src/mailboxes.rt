@@ -8,7 +8,7 @@ use live_replica::UpdateOf;
 use std::alloc::{AllocError, Global};
 use std::sync::Wait;
 
-/// A mailbox for each session, for the updates that it has not taken in. No contract states what comes through.
+/// A mailbox for each session, for the updates that it has not delivered. No contract states what comes through.
 #[derive(Drop)]
 pub struct Mailboxes<C: Copy> {
     boxes: Vec<SegQueue<UpdateOf<C>>>,

@@ -1,4 +1,4 @@
-//! The plan of a drive: when updates are taken in, how many seals are taken, and which client stops.
+//! The plan of a drive: when updates are delivered, how many seals are taken, and which client stops.
 
 use live_replica::Delivery;
 

@@ -8,7 +8,7 @@ use crate::LamportReplica;
 use live_replica::UpdateOf;
 use model_object_trait::SeqObject;
 
-/// The updates that a replica has taken in and its own ones, in the order of their stamps, which its answers follow.
+/// The updates that a replica has delivered and its own ones, in the order of their stamps, which its answers follow.
 ///
 /// It is the total order of Lamport ("Time, clocks and the ordering of events in a distributed system", 1978): stamps rise,
 /// sessions rise within one stamp, and numbers rise within one session, so that no two are alike. O(1).

@@ -1,4 +1,4 @@
--- What a session recorded, and what a receipt stands for. (This project's profile.)
+-- What a session recorded, and what a receipt represents. (This project's profile.)
 use Rattle.std.specs.Prelude.{◌≡◌, ℕ, ◌+◌, ◌-◌, ◌<◌, ◌≤◌, Bool, true, List, [], ◌∷◌, ◌++◌, length, take, map, Option, Some, None, option_map, slice_get}
 use Rattle.model_history.specs.declared.op_id.OpId.{OpId}
 use Rattle.model_history.specs.declared.advice.Advice.{Advice}

@@ -80,7 +80,7 @@ module _ {S C Z : Type 0} (query : C → Bool) (stands : Z → S → List C → 
       earlier = λ m e. let up_to : n ≡ m = cc in All-push (λ c. c.applied ≤ m) cs (record { object = copy; applied = n }) (f.earlier m e) (omega arith);
     }
 
-    -- an update comes in behind all that the object has taken in
+    -- an update comes in behind all that the object has applied
     pub following-behind : (n at : ℕ) (u : UpdateOf C) → applied ≡ Some n → n ≤ at → at ≤ length us → IsFollowing query stands z start (insert us at u) applied cs
     following-behind n at u is before within = record {
       taken = λ m e. let same : n ≡ m = cc in taken-insert query stands z start us m at u (omega arith) within (f.taken m e);
@@ -103,7 +103,7 @@ module _ {S C Z : Type 0} (query : C → Bool) (stands : Z → S → List C → 
     }
 
     module _ (z' : Z) (c : C) (takes : (ds : List C) → stands z start ds → stands z' start (ds ++ c ∷ [])) where
-      -- the next of the updates is taken in
+      -- the next of the updates is delivered
       pub following-more : (i : ℕ) (u : UpdateOf C) → slice_get us i ≡ Some u → u.call ≡ c → applied ≡ Some i → IsFollowing query stands z' start us (Some (i + 1)) cs
       following-more i u at is e = record {
         taken = at_some (λ n. HasTaken query stands z' start us n) (i + 1) (taken-more query stands z z' start us c takes i u at is (f.taken i e));
@@ -112,7 +112,7 @@ module _ {S C Z : Type 0} (query : C → Bool) (stands : Z → S → List C → 
         earlier = at_some (λ n. UpTo n cs) (i + 1) (up_to-more i (i + 1) cs (omega arith) (f.earlier i e));
       }
 
-      -- an update behind them all is taken in
+      -- an update behind them all is delivered
       pub following-push : applied ≡ Some (length us) → (u : UpdateOf C) → u.call ≡ c → IsFollowing query stands z' start (us ++ u ∷ []) (Some (length us + 1)) cs
       following-push e u is = record {
         taken = at_some (λ n. HasTaken query stands z' start (us ++ u ∷ []) n) (length us + 1) (taken-push query stands z z' start us c takes (f.taken (length us) e) u is);
@@ -122,7 +122,7 @@ module _ {S C Z : Type 0} (query : C → Bool) (stands : Z → S → List C → 
         earlier = at_some (λ n. UpTo n cs) (length us + 1) (up_to-more (length us) (length us + 1) cs (omega arith) (f.earlier (length us) e));
       }
 
-      -- a query is taken in
+      -- a query is applied
       pub following-query : query c ≡ true → IsFollowing query stands z' start us applied cs
       following-query q = record {
         taken = λ n e. taken-query query stands z z' start us c takes q n (f.taken n e);

@@ -1,4 +1,4 @@
--- A state that has taken in some calls, with queries between them.
+-- A state that has applied some calls, with queries between them.
 use Rattle.std.proofs.Common.{◌≡◌, ℕ, zero, suc, ◌+◌, ◌≤◌, List, [], ◌∷◌, ◌++◌, take, length, refl, sym, ap, subst, ◌∙◌, arith, add-one, append_assoc, length-append}
 use Rattle.std.specs.Prelude.{Bool, true, false, not, filter, insert, Some, slice_get}
 use Rattle.std.proofs.lemmas.List.Elements.{filter-append}
@@ -55,11 +55,11 @@ module _ {S C Z : Type 0} (query : C → Bool) (stands : Z → S → List C → 
   pub serves-fresh : (z : Z) (start : S) → stands z start [] → Serves query stands z start []
   serves-fresh z start st = ([], refl, st)
 
-  -- one more call is taken in
+  -- one more call is delivered
   pub serves-push : (z z' : Z) (start : S) (cs : List C) (c : C) → Serves query stands z start cs → ((ds : List C) → stands z start ds → stands z' start (ds ++ c ∷ [])) → Serves query stands z' start (cs ++ c ∷ [])
   serves-push z z' start cs c s step = (s.0 ++ c ∷ [], same-push query cs s.0 c s.1, step s.0 s.2)
 
-  -- a query is taken in
+  -- a query is applied
   pub serves-query : (z z' : Z) (start : S) (cs : List C) (c : C) → query c ≡ true → Serves query stands z start cs → ((ds : List C) → stands z start ds → stands z' start (ds ++ c ∷ [])) → Serves query stands z' start cs
   serves-query z z' start cs c q s step = (s.0 ++ c ∷ [], same-query query cs s.0 c q s.1, step s.0 s.2)
 
@@ -107,12 +107,12 @@ module _ {S C Z : Type 0} (query : C → Bool) (stands : Z → S → List C → 
   pub taken-behind : (n : ℕ) (u : UpdateOf C) → HasTaken query stands z start us n → HasTaken query stands z start (us ++ u ∷ []) n
   taken-behind n u t = subst (λ (l : List (UpdateOf C)). HasTaken query stands z start l n) (insert_end us u) (taken-insert n (length us) u t.within (omega arith) t)
 
-  -- a state that has taken in all of them
+  -- a state that has applied all of them
   pub taken-all : (n : ℕ) → n ≡ length us → HasTaken query stands z start us n → Serves query stands z start (calls us)
   taken-all n e t = subst (λ (l : List (UpdateOf C)). Serves query stands z start (calls l)) (ap (λ (m : ℕ). take m us) e ∙ take-length us) t.serves
 
 module _ {S C Z : Type 0} (query : C → Bool) (stands : Z → S → List C → Type 0) (z z' : Z) (start : S) (us : List (UpdateOf C)) (c : C) (takes : (ds : List C) → stands z start ds → stands z' start (ds ++ c ∷ [])) where
-  -- the next of the updates is taken in
+  -- the next of the updates is delivered
   pub taken-more : (i : ℕ) (u : UpdateOf C) → slice_get us i ≡ Some u → u.call ≡ c → HasTaken query stands z start us i → HasTaken query stands z' start us (i + 1)
   taken-more i u at is t =
       let below = slice_get_within us i u at in record {
@@ -121,7 +121,7 @@ module _ {S C Z : Type 0} (query : C → Bool) (stands : Z → S → List C → 
             (serves-push query stands z z' start (calls (take i us)) c t.serves takes);
       }
 
-  -- an update behind them all is taken in
+  -- an update behind them all is delivered
   pub taken-push : HasTaken query stands z start us (length us) → (u : UpdateOf C) → u.call ≡ c → HasTaken query stands z' start (us ++ u ∷ []) (length us + 1)
   taken-push t u is = record {
     within = omega (arith, length-append us (u ∷ []));
@@ -130,7 +130,7 @@ module _ {S C Z : Type 0} (query : C → Bool) (stands : Z → S → List C → 
         (serves-push query stands z z' start (calls us) c (taken-all query stands z start us (length us) refl t) takes));
   }
 
-  -- a query is taken in
+  -- a query is applied
   pub taken-query : query c ≡ true → (n : ℕ) → HasTaken query stands z start us n → HasTaken query stands z' start us n
   taken-query q n t = record { within = t.within; serves = serves-query query stands z z' start (calls (take n us)) c q t.serves takes }
 

@@ -1,4 +1,4 @@
--- What is kept of the updates that a replica has taken in, when one more is.
+-- What is kept of the updates that a replica has delivered, when one more is.
 use Rattle.std.proofs.Common.{◌≡◌, ◌≢◌, ℕ, ◌+◌, ◌<◌, ◌≤◌, ◌==◌, ◌&&◌, ◌||◌, List, [], ◌∷◌, ◌++◌, take, drop, length, refl, sym, ap, subst, ◌∙◌, arith, ⊎_elim}
 use Rattle.std.specs.Prelude.{Bool, true, false, if◌then◌else◌, max, map, insert, nat_le, nat_lt, Some, slice_get, slice_index}
 use Rattle.std.proofs.lemmas.Grind.{common_steps}

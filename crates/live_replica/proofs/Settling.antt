@@ -1,4 +1,4 @@
--- How held updates are taken in, one after the other.
+-- How held updates are delivered, one after the other.
 use Rattle.std.proofs.Common.{◌≡◌, ℕ, ◌+◌, ◌<◌, ◌≤◌, List, [], ◌∷◌, length, refl, sym, ap, subst, ◌∙◌, arith, get_or, below_more}
 use Rattle.std.specs.Prelude.{Some, slice_get}
 use Rattle.std.proofs.lemmas.List.Edits.{length-remove}
@@ -9,11 +9,11 @@ use Rattle.live_replica.specs.Replicas.{ReplicaState, IsReady, IsFirstReady, IsS
 use Rattle.live_replica.specs.Steps.Logs.{NoneReady}
 
 module _ {S C : Type 0} where
-  -- where nothing is ready, nothing is taken in
+  -- where nothing is ready, nothing is delivered
   pub settles_here : (place : Place) (r : ReplicaState S C) → IsSettled r → Settles place r r
   settles_here place r settled = ([], (settled, refl))
 
-  -- the first that is ready is taken in first
+  -- the first that is ready is delivered first
   pub settles-more : (place : Place) (r r' r'' : ReplicaState S C) (i : ℕ) (u : UpdateOf C) → IsFirstReady r i u → r' ≡ release place r i u → Settles place r' r'' → Settles place r r''
   settles-more place r r' r'' i u first e s = (u ∷ s.0, (i, first, subst (λ (x : ReplicaState S C). TakesIn place x s.0 r'') e s.1))
 

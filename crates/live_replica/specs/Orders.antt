@@ -5,11 +5,11 @@ use Rattle.std.specs.Prelude.{◌≡◌, ◌≢◌, ◌<◌, ℕ, List, Some, le
 abbrev pub Key : Type 0
 Key = ℕ × ℕ × ℕ
 
--- where an update goes among those taken in before it
+-- where an update goes among those delivered before it
 abbrev pub Place : Type 0
 Place = List Key → Key → ℕ
 
--- each update goes behind those taken in before it
+-- each update goes behind those delivered before it
 abbrev pub IsBehind : Place → Type 0
 IsBehind place = (ks : List Key) (k : Key) → place ks k ≡ length ks
 

@@ -1,4 +1,4 @@
--- The replica of a session: what it has taken in and what it holds back, and what its operations and updates do.
+-- The replica of a session: what it has delivered and what it holds back, and what its operations and updates do.
 -- (Ahamad, Neiger, Burns, Kohli and Hutto, "Causal memory", 1995; the clock: Lamport, "Time, clocks and the ordering of events in a distributed system", 1978.)
 use Rattle.std.specs.Prelude.{◌≡◌, ◌≢◌, ℕ, ◌+◌, ◌^◌, ◌<◌, ◌≤◌, ◌==◌, ◌||◌, nat_le, if◌then◌else◌, max, Bool, List, [], ◌∷◌, ◌++◌, map, insert, remove, Option, Some, None, slice_get, slice_index}
 use Rattle.model_history.specs.declared.limits.TheConstants.{MAX_OPERATIONS, MAX_SESSIONS}
@@ -11,7 +11,7 @@ use Rattle.live_replica.specs.Orders.{Place}
 use Rattle.live_replica.specs.Updates.{is_named, key, many, reach, writers}
 
 -- a replica: its session, how many sessions there are, when it takes updates in, the start of its object, how many operations
--- its session has had, its clock, the updates that it has taken in and its own ones, in the order that answers follow, and the
+-- its session has had, its clock, the updates that it has delivered and its own ones, in the order that answers follow, and the
 -- updates that it holds back, in the order in which they were received
 pub record ReplicaState (S C : Type 0) : Type 0 where
   pub session : ℕ
@@ -28,11 +28,11 @@ module _ {S C : Type 0} where
   abbrev pub fresh_replica : ℕ → ℕ → Delivery → S → ReplicaState S C
   fresh_replica s k delivery start = record { session = s; sessions = k; delivery = delivery; start = start; operations = 0; clock = 0; taken = []; held = [] }
 
-  -- an update of the replica's own session, of a session that there is not, or one that was taken in or is held already
+  -- an update of the replica's own session, of a session that there is not, or one that was delivered or is held already
   abbrev pub ignores : ReplicaState S C → UpdateOf C → Bool
   ignores r u = (u.session == r.session) || (nat_le r.sessions u.session || (is_named r.taken u.session u.number || is_named r.held u.session u.number))
 
-  -- it is the next of its session, which is one of the sessions, and all that its writer had taken in of sessions other than its own and the replica's was taken in
+  -- it is the next of its session, which is one of the sessions, and all that its writer had delivered of sessions other than its own and the replica's was delivered
   pub record IsReady (r : ReplicaState S C) (u : UpdateOf C) : Type 0 where
     pub among : u.session < r.sessions
     pub next : u.number ≡ many r.taken u.session
@@ -79,7 +79,7 @@ module _ {S C : Type 0} where
     pub own : slice_index u.seen r.session ≡ 0
     pub seen : (s : ℕ) → s < MAX_SESSIONS → s ≢ r.session → slice_index u.seen s ≡ many r.taken s
 
-  -- what is told of the replica's next operation: for each session how far what was taken in reaches, its own operation
+  -- what is told of the replica's next operation: for each session how far what was delivered reaches, its own operation
   -- included, the clock, and, where the store tells it, the sessions of the updates in their order with the own operation last
   pub record IsAdvice (told : Bool) (r : ReplicaState S C) (a : Advice) : Type 0 where
     pub own : slice_index a.counts r.session ≡ r.operations + 1

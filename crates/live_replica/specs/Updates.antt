@@ -1,4 +1,4 @@
--- What a replica knows from the updates that it has taken in. (Ahamad, Neiger, Burns, Kohli and Hutto, "Causal memory", 1995; the clock: Lamport, 1978.)
+-- What a replica knows from the updates that it has delivered. (Ahamad, Neiger, Burns, Kohli and Hutto, "Causal memory", 1995; the clock: Lamport, 1978.)
 use Rattle.std.specs.Prelude.{ℕ, ◌+◌, ◌==◌, ◌&&◌, Bool, if◌then◌else◌, max, List, [], ◌∷◌, map, count_by}
 use Rattle.std.specs.List.{list_any}
 use Rattle.live_replica.specs.declared.update.UpdateOf.{UpdateOf}

@@ -1,6 +1,6 @@
-//! A state that an object had, with the number of updates it had taken in.
+//! A state that an object had, with the number of updates it had applied.
 
-/// A state that an object had, and how many updates it had taken in.
+/// A state that an object had, and how many updates it had applied.
 #[derive(Drop)]
 pub(crate) struct Checkpoint<Z> {
     pub(crate) object: Z,

@@ -14,7 +14,7 @@ use std::alloc::{AllocError, Global};
 /// The fewest updates between two checkpoints.
 const SPACING: usize = 64;
 
-/// An object that has taken in the calls of the first of some updates, with queries between them.
+/// An object that has applied the calls of the first of some updates, with queries between them.
 ///
 /// If updates may come in before others, it keeps checkpoints, so that it need not be made anew. For each place with m updates
 /// after it there is a checkpoint from which at most m + max(3m, `SPACING`) updates are left, or there are no more than that in all.
@@ -23,7 +23,7 @@ pub(crate) struct Follower<O: SeqObject> {
     pub(crate) alloc: Global,
     pub(crate) start: O::Start,
     pub(crate) object: O,
-    /// How many updates it has taken in; `None` if it has to go on from a checkpoint, or from the start.
+    /// How many updates it has applied; `None` if it has to go on from a checkpoint, or from the start.
     pub(crate) applied: Option<usize>,
     /// Earlier states of it, the latest last.
     pub(crate) checkpoints: Vec<Checkpoint<O>>,
@@ -82,7 +82,7 @@ impl<O: SeqObject> Follower<O> {
         }
     }
 
-    /// How many updates the latest checkpoint has taken in.
+    /// How many updates the latest checkpoint has applied.
     fn latest(&self) -> usize {
         match self.checkpoints.last() {
             Some(checkpoint) => checkpoint.applied,
@@ -110,7 +110,7 @@ impl<O: SeqObject> Follower<O> {
         Ok(())
     }
 
-    /// Applies to the object the updates that it has not taken in yet.
+    /// Applies to the object the updates that it has not applied yet.
     fn catch_up(&mut self, updates: &[UpdateOf<O::Call>]) -> Result<(), AllocError>
         requires start { O.is_start self.old.start }
         requires following { IsFollowing O.query O.stands self.old.object self.old.start updates.now self.old.applied

@@ -1,4 +1,4 @@
-//! What the replicas of the stores share: updates, the order of those that were taken in, and the object that answers.
+//! What the replicas of the stores share: updates, the order of those that were delivered, and the object that answers.
 //!
 //! It gives [`Replica`], with [`Acted`], [`Update`], [`Delivery`] and [`ReplicaError`], and [`UpdateOrder`], which a store
 //! implements. It uses model_object_trait, model_history and thiserror.

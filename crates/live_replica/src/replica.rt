@@ -24,8 +24,8 @@ use std::marker::Model;
 
 /// The replica of a session, whose answers follow the order of updates that `P` gives.
 ///
-/// It keeps the updates that it has taken in and those that it holds, and an object that answers. If the order of the store is
-/// not that in which updates are taken in, it also keeps copies of earlier states of the object, at most one for each 64 updates.
+/// It keeps the updates that it has delivered and those that it holds, and an object that answers. If the order of the store is
+/// not that in which updates are delivered, it also keeps copies of earlier states of the object, at most one for each 64 updates.
 #[derive(Drop)]
 pub struct Replica<O: SeqObject, P: UpdateOrder> {
     alloc: Global,
@@ -89,10 +89,10 @@ impl<O: SeqObject, P: UpdateOrder> Replica<O, P> {
         })
     }
 
-    /// The updates that were taken in and the own ones, in the order that answers follow.
+    /// The updates that were delivered and the own ones, in the order that answers follow.
     ///
-    /// They are in the order that the store states. If that is the order in which they were taken in, then with causal
-    /// delivery each is after the earlier ones of its session, and after all that its writer had taken in of sessions
+    /// They are in the order that the store states. If that is the order in which they were delivered, then with causal
+    /// delivery each is after the earlier ones of its session, and after all that its writer had delivered of sessions
     /// other than its own and this one. O(1).
     pub fn delivered(&self) -> &[UpdateOf<O::Call>]
         ensures updates { result.now ≡ self.now.taken }
@@ -112,7 +112,7 @@ impl<O: SeqObject, P: UpdateOrder> Replica<O, P> {
             || is_named(&self.held, update)
     }
 
-    /// Whether an update of this session and this number was taken in. With causal delivery the counts show it.
+    /// Whether an update of this session and this number was delivered. With causal delivery the counts show it.
     fn has_taken(&self, update: &UpdateOf<O::Call>) -> bool
         requires { update.now.session < MAX_SESSIONS }
         ensures { result ≡ is_named self.now.taken update.now.session update.now.number }
@@ -123,7 +123,7 @@ impl<O: SeqObject, P: UpdateOrder> Replica<O, P> {
         }
     }
 
-    /// Whether an update may be taken in.
+    /// Whether an update may be delivered.
     fn is_ready(&self, update: &UpdateOf<O::Call>, counts: &[u64; MAX_SESSIONS]) -> bool
         requires { (s : ℕ) → s < MAX_SESSIONS → slice_index counts.now s ≡ many self.now.taken s }
         ensures { IsTrue result ↔ IsReady self.now update.now }
@@ -144,14 +144,14 @@ impl<O: SeqObject, P: UpdateOrder> Replica<O, P> {
         &self.held
     }
 
-    /// For each session how many of its updates were taken in.
+    /// For each session how many of its updates were delivered.
     fn counts(&self) -> [u64; MAX_SESSIONS]
         ensures { (s : ℕ) → s < MAX_SESSIONS → slice_index result s ≡ many self.now.taken s }
     {
         self.log.counts()
     }
 
-    /// The first held update that may be taken in, with its place.
+    /// The first held update that may be delivered, with its place.
     fn first_ready(&self) -> Option<(usize, UpdateOf<O::Call>)>
         ensures { MatchOption result (IsSettled self.now) (λ p. IsFirstReady self.now p.0 p.1) }
     {
@@ -317,13 +317,13 @@ impl<O: SeqObject, P: UpdateOrder> Replica<O, P> {
 
     /// The session's next operation: what its call returns, its update, and its advice.
     ///
-    /// The return is the object's answer after the updates taken in and the own ones, in the replica's order, also with any
+    /// The return is the object's answer after the updates delivered and the own ones, in the replica's order, also with any
     /// queries put between them. A query has no update. The clock rises by one.
     ///
     /// Refused in this order: `LaneFull` after 256 operations, `ClockFull` if the clock is at the greatest `u64`,
     /// `Memory`. The replica is then as before.
     ///
-    /// O(k), and O(n) for n updates taken in if the store reports their order, beside what the object takes to apply updates and
+    /// O(k), and O(n) for n updates delivered if the store reports their order, beside what the object takes to apply updates and
     /// to be copied. The object applies each update that came since the last operation. If one of these came in before others that
     /// it has applied, it goes on from a copy of its state before that place: with m updates after the place, it applies 4m + 64
     /// at most. A copy is made if 64 updates were applied since the last one, and three times as many as are left to apply:
@@ -350,15 +350,15 @@ impl<O: SeqObject, P: UpdateOrder> Replica<O, P> {
     /// Receives an update of another session.
     ///
     /// An update of the own session, of a session not below `k`, or one whose session and number are those of an update that
-    /// was taken in or is held, changes nothing. Eager delivery takes any other in at once. Causal delivery holds it back until
-    /// it is the next of its session and all that its writer had taken in of third sessions was taken in here; if several
-    /// held updates may be taken in, the one that was received first goes first.
+    /// was delivered or is held, changes nothing. Eager delivery delivers any other at once. Causal delivery holds it back until
+    /// it is the next of its session and all that its writer had delivered of third sessions was delivered here; if several
+    /// held updates may be delivered, the one that was received first goes first.
     ///
     /// Fails with `Memory` alone, and the replica is then as before.
     ///
-    /// With causal delivery O(h + k²) for h updates held, and as much again for each that is taken in: the counts show what was
-    /// taken in. With eager delivery O(n + h) for n updates taken in: any of a session's updates may be missing. An update that
-    /// is taken in takes its place in O(log n + m) if m updates are after it, and drops the copies of the object that were
+    /// With causal delivery O(h + k²) for h updates held, and as much again for each that is delivered: the counts show what was
+    /// delivered. With eager delivery O(n + h) for n updates delivered: any of a session's updates may be missing. An update that
+    /// is delivered takes its place in O(log n + m) if m updates are after it, and drops the copies of the object that were
     /// made after that place.
     pub fn receive(&mut self, update: UpdateOf<O::Call>) -> Result<(), ReplicaError>
         ensures ignored { OnOk result (ignores self.old update ≡ true → self.new ≡ self.old) }
@@ -393,7 +393,7 @@ fn is_named<C: Copy>(updates: &[UpdateOf<C>], update: &UpdateOf<C>) -> bool
     updates.iter().any(|other| update.session == other.session && update.number == other.number)
 }
 
-/// Whether all that an update's writer had taken in of a session was taken in. True for the writer's own session and for this one.
+/// Whether all that an update's writer had delivered of a session was delivered. True for the writer's own session and for this one.
 fn is_seen<C: Copy>(
     update: &UpdateOf<C>,
     session: u8,
@@ -412,7 +412,7 @@ fn is_seen<C: Copy>(
     update.seen[s] <= counts[s]
 }
 
-/// Whether all that an update's writer had taken in of sessions other than its own and this one was taken in.
+/// Whether all that an update's writer had delivered of sessions other than its own and this one was delivered.
 fn has_seen<C: Copy>(update: &UpdateOf<C>, session: u8, counts: &[u64; MAX_SESSIONS]) -> bool
     ensures { IsTrue result ↔ ((s : ℕ) → s < MAX_SESSIONS → s ≢ update.now.session → s ≢ session
         → slice_index update.now.seen s ≤ slice_index counts.now s) }

@@ -21,7 +21,7 @@ pub struct UpdateOf<C> {
     pub stamp: u64,
     /// What was called.
     pub call: C,
-    /// For each session how many of its updates the writer had taken in before; 0 for the writer's own session.
+    /// For each session how many of its updates the writer had delivered before; 0 for the writer's own session.
     pub seen: [u64; MAX_SESSIONS],
 }
 

@@ -13,7 +13,7 @@ use model_object_trait::SeqObject;
 use std::alloc::{AllocError, Global};
 use std::marker::{Model, PhantomData};
 
-/// The updates that a replica has taken in and its own ones, in the order that answers follow, and the object that answers.
+/// The updates that a replica has delivered and its own ones, in the order that answers follow, and the object that answers.
 #[derive(Drop)]
 pub(crate) struct UpdateLog<O: SeqObject, P: UpdateOrder> {
     follower: Follower<O>,

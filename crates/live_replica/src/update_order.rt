@@ -10,7 +10,7 @@ use crate::update::UpdateOf;
 ///
 /// The laws below the functions say that updates are in order, however they come.
 pub trait UpdateOrder {
-    /// The place of an update among those taken in before it. A key is the stamp, session and number of an update.
+    /// The place of an update among those delivered before it. A key is the stamp, session and number of an update.
     ghost place: { List Key → Key → ℕ };
 
     /// What is true of updates that are in this order.
@@ -19,16 +19,16 @@ pub trait UpdateOrder {
     /// Whether advice reports the sessions of the updates, in this order.
     ghost told: { Bool };
 
-    /// Whether each update goes after those taken in before it.
+    /// Whether each update goes after those delivered before it.
     ghost behind: { Bool };
 
-    /// Where an update goes among those taken in before it, which are in order.
+    /// Where an update goes among those delivered before it, which are in order.
     fn place_of<C: Copy>(taken: &[UpdateOf<C>], update: &UpdateOf<C>) -> usize
         requires { in_order (map key taken.now) }
         ensures place { result ≡ place (map key taken.now) (key update.now) }
         ensures within { result ≤ length taken.now };
 
-    /// Whether each update goes after those taken in before it, so that no earlier state is needed.
+    /// Whether each update goes after those delivered before it, so that no earlier state is needed.
     fn is_behind() -> bool
         ensures { result ≡ behind };
 

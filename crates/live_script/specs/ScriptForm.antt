@@ -21,7 +21,7 @@ pub record ScriptValue (S C R : Type 0) : Type 0 where
 abbrev pub IsNumberOfSessions : ℕ → Type 0
 IsNumberOfSessions k = (1 ≤ k) × (k ≤ MAX_SESSIONS)
 
--- steps of a script of k sessions that are not too many, where those that stand for several count as what they stand for
+-- steps of a script of k sessions that are not too many, where those that represent several count as what they represent
 abbrev pub IsFew : {C R : Type 0} → ℕ → List (WrittenStep C R) → Type 0
 IsFew k steps = length (written_out k steps) ≤ MAX_STEPS
 

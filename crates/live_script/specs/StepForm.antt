@@ -97,7 +97,7 @@ module _ {C R : Type 0} (is_call : C → Type 0) (k : ℕ) where
   IsWritten (Looks z n) = (0 < n) × (n ≤ MAX_LOOKS)
 
 module _ {C R : Type 0} (k : ℕ) where
-  -- the steps of the world that a step of a script stands for
+  -- the steps of the world that a step of a script represents
   abbrev pub steps_of : WrittenStep C R → List (StepOf C R)
   steps_of (Once step) = step ∷ []
   steps_of StartUntold = Start (replicate k 0) ∷ []

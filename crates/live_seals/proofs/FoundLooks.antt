@@ -213,7 +213,7 @@ runs_first test from to end r =
     let a : from ≤ to = r.from_on in let b : to ≤ end = r.within in
     first_is test (end - from) from to a (omega arith) r.full (λ h. r.stops (let h' : to < from + (end - from) = h in omega arith))
 
--- a session's longest receipt stands for as many operations as were told
+-- a session's longest receipt represents as many operations as were told
 pub count_is : {S C R : Type 0} (lanes : LanesState S) (rs : List (ReceiptState C R)) (told : List ℕ) (s : ℕ) (best : LongestReceipt) → AreToldBy lanes rs told → IsLongest rs s (length rs) best → best.count ≡ get_or told s 0
 count_is lanes rs told s best a b =
     let low : best.count ≤ get_or told s 0 = elim (cases_lt 0 best.count) [

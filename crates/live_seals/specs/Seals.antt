@@ -15,7 +15,7 @@ pub record SealState (S C R : Type 0) : Type 0 where
   pub cells : List Cells
   pub advice : List (List (Option Advice))
 
--- a looker: the lanes that it looks at, the receipts that it was told, for each lane how many operations these stand for, how
+-- a looker: the lanes that it looks at, the receipts that it was told, for each lane how many operations these represent, how
 -- many places the lanes have at most, and its looks so far, oldest first
 pub record LookerState (S C R : Type 0) : Type 0 where
   pub lanes : LanesState S
@@ -37,13 +37,13 @@ module _ {S C R : Type 0} where
   abbrev pub AreReceiptsOf : LanesState S → List (ReceiptState C R) → Type 0
   AreReceiptsOf lanes rs = (j : ℕ) (r : ReceiptState C R) → slice_get rs j ≡ Some r → IsReceiptOf lanes r
 
-  -- for each lane the greatest number of operations that one of these receipts stands for
+  -- for each lane the greatest number of operations that one of these receipts represents
   pub record AreToldBy (lanes : LanesState S) (rs : List (ReceiptState C R)) (told : List ℕ) : Type 0 where
     pub many : length told ≡ length lanes.cells
     pub most : (j : ℕ) (r : ReceiptState C R) → slice_get rs j ≡ Some r → length r.operations ≤ slice_index told r.lane
     pub reached : (s : ℕ) → 0 < slice_index told s → (j : ℕ) × (r : ReceiptState C R) × (slice_get rs j ≡ Some r) × (r.lane ≡ s) × (length r.operations ≡ slice_index told s)
 
-  -- a history holds each operation that a receipt stands for, with its call and return
+  -- a history holds each operation that a receipt represents, with its call and return
   abbrev pub Holds : HistoryValue S C R → ReceiptState C R → Type 0
   Holds h r = (i : ℕ) (c : C) (x : R) (a : Advice) → slice_get r.operations i ≡ Some (c, x, a) → entry h (session_operation r.lane i) ≡ Some (c, Some x)
 
@@ -54,7 +54,7 @@ module _ {S C R : Type 0} where
   abbrev pub advice_of : SealState S C R → OpId → Option (Option Advice)
   advice_of seal o = slice_get (slice_index_or seal.advice o.session []) o.index
 
-  -- a seal has the advice of each operation that a receipt stands for
+  -- a seal has the advice of each operation that a receipt represents
   abbrev pub Advises : SealState S C R → ReceiptState C R → Type 0
   Advises seal r = (i : ℕ) (c : C) (x : R) (a : Advice) → slice_get r.operations i ≡ Some (c, x, a) → advice_of seal (session_operation r.lane i) ≡ Some (Some a)
 

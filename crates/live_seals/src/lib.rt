@@ -1,9 +1,9 @@
 //! Seals of what a recorder holds: what a sealer finds where it looks at the cells that a plan names.
 //!
 //! [`seal`] gives a [`Sealed`], [`meet`] says how far it and a session hold the same, and [`laws`] has what holds of every run.
-//! [`walk`] follows a [`CutPlan`] of live_cut_plan with any [`Looker`]. It uses model_object_trait, model_history, live_recorder, live_cut_plan, once_cell
-//! and thiserror.
-//! How finds are kept in tables and how receipts are compared may change: callers rest on the contracts alone.
+//! [`walk`] follows a [`CutPlan`] of live_cut_plan with any [`Looker`]. It uses model_object_trait, model_history, live_recorder,
+//! live_cut_plan, once_cell and thiserror. How finds are kept in tables and how receipts are compared may change: callers rest on
+//! the contracts alone.
 #![tactic(auto)]
 
 mod comparing;

@@ -1,4 +1,4 @@
--- Which operations stand for a call, and which calls the reads and the forks of a history come from.
+-- Which operations represent a call, and which calls the reads and the forks of a history come from.
 use Rattle.std.proofs.Common.{◌≡◌, ℕ, zero, suc, true, false, List, [], ◌∷◌, refl, ap, sym, ◌∙◌, inl, inr}
 use Rattle.std.specs.Prelude.{◌≢◌, ◌⊎◌, if◌then◌else◌, Option, Some, None, slice_get}
 use Rattle.std.proofs.lemmas.Option.{same_Some}

@@ -77,7 +77,7 @@ module _ (es : List Event) where
           let w = fork-write (mark forked.a.place) (key y) (value v) z t i r (subst (λ (l : List Operation). slice_get l i ≡ Some (write z t r)) same found) in
           inr (record { p = p; i = i; forked = forked; y = y; v = v; called = called; ended = ended; second = w.0; key_same = w.1; value_same = w.2 })
 
-  -- a mark is written by the lost write that it stands for
+  -- a mark is written by the lost write that it represents
   mark-writer : (p : ℕ) (o : OpId) → Writes (history_of es) o (mark p) 1 → IsMainAt es p o
   mark-writer p o writes = of_writer (writer-from o (mark p) 1 writes)
     where

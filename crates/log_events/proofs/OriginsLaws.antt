@@ -1,4 +1,4 @@
--- The calls that operations stand for are listed as the operations are.
+-- The calls that operations represent are listed as the operations are.
 use Rattle.std.proofs.Common.{◌≡◌, ℕ, zero, suc, ◌+◌, ◌<◌, Bool, true, false, List, [], ◌∷◌, length, map, refl, ap, sym, ◌∙◌, inl, inr, ⊎_elim, arith, eqb-true}
 use Rattle.std.specs.Prelude.{◌==◌, cond, Contains, Option, Some, None, filter, filter_map, option_map, slice_get, slice_index_or}
 use Rattle.std.specs.List.{cons_option, range_with_len}

@@ -1,4 +1,4 @@
--- What decides which operations calls stand for.
+-- What decides which operations calls represent.
 use Rattle.std.proofs.Common.{◌≡◌, ℕ, Bool, true, false, List, length, refl, ap, sym, subst, ◌∙◌}
 use Rattle.std.specs.Prelude.{◌↔◌, if◌then◌else◌, All, Contains, IsTrue, Option, Some, filter, unwrap_or}
 use Rattle.std.specs.List.Sorted.{IsStrictlyIncreasing}

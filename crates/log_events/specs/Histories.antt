@@ -1,4 +1,4 @@
--- The memory history that the events of a log stand for.
+-- The memory history that the events of a log represent.
 use Rattle.std.specs.Prelude.{ℕ, ◌+◌, ◌*◌, ◌==◌, ◌&&◌, max, Bool, false, if◌then◌else◌, List, [], ◌∷◌, ◌++◌, map, filter_map, Option, Some, None}
 use Rattle.std.specs.List.{list_any, range_with_len}
 use Rattle.model_objects.specs.declared.register.RegisterCall.TheVariants.{Write, Read}

@@ -7,7 +7,8 @@ ghost use Rattle.order_memory.specs.SourceOrder.{LacksSource};
 ghost use Rattle.cert_check.specs.Criteria.{Meets};
 ghost use Rattle.log_events.specs.Events.{Call, IsAllowed};
 ghost use Rattle.log_events.specs.Histories.{history_of, Operation, read, write};
-ghost use Rattle.log_events.specs.Cuts.{BeginsSession, EndsWell, FindsNothingInOrder, HasPlainEnds, HasStartsBefore, IsClosedCut, IsCutSession, ReturnsWhatWasBegun};
+ghost use Rattle.log_events.specs.Cuts.{BeginsSession, EndsWell, FindsNothingInOrder, HasPlainEnds, HasStartsBefore, IsClosedCut};
+ghost use Rattle.log_events.specs.Cuts.{IsCutSession, ReturnsWhatWasBegun};
 ghost use Rattle.log_events.specs.Insertions.{IsForked, IsFresh, IsInserted, IsUnread};
 ghost use Rattle.log_events.specs.Shapes.{HasSmallKeys, IsShaped, NamesSmallKeys};
 ghost use Rattle.log_events.specs.Values.{HasDistinctValues};
@@ -59,8 +60,8 @@ pub fn cuts_meet_what_the_log_meets()
         → Meets memory_answer (history_of es) criterion → Meets memory_answer (history_of (take n es)) criterion }
 {}
 
-/// Calls may be lost or fail, and reads may get nothing: a closed cut of a log meets what the log meets. So the log does not meet a criterion
-/// that a closed cut does not meet. Values need not be distinct.
+/// Calls may be lost or fail, and reads may get nothing: a closed cut of a log meets what the log meets. So the log does not meet
+/// a criterion that a closed cut does not meet. Values need not be distinct.
 pub fn closed_cuts_meet_what_the_log_meets()
     ensures { (es : List Event) (n : ℕ) → IsAllowed es → IsClosedCut es n → (criterion : Criterion)
         → Meets memory_answer (history_of es) criterion → Meets memory_answer (history_of (take n es)) criterion }

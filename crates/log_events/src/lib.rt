@@ -1,9 +1,10 @@
 //! Logs of events of the clients of a memory, and the memory histories that they represent.
 //!
-//! It gives [`Event`], with its [`ClientCall`] and [`Ending`], and in [`laws`] what holds of logs and of their histories. `specs/Events` says
-//! which lists of events are logs, and `specs/Histories` which history a log represents. An [`EventLog`] takes one event after the other, each
-//! where it may come next and no other. It keeps the calls of the run and not the events, and gives the history that its events represent, for
-//! each operation of it the call, and the reads that the history leaves out. It uses judge_memory and cert_subhistories.
+//! It gives [`Event`], with its [`ClientCall`] and [`Ending`], and in [`laws`] what holds of logs and of their histories.
+//! `specs/Events` says which lists of events are logs, and `specs/Histories` which history a log represents. An [`EventLog`]
+//! takes one event after the other, each where it may come next and no other. It keeps the calls of the run and not the events,
+//! and gives the history that its events represent, for each operation of it the call, and the reads that the history leaves out.
+//! It uses judge_memory and cert_subhistories.
 #![tactic(auto)]
 
 mod chains;

@@ -28,7 +28,7 @@ spells-append w v s t first then = record {
   passed = λ rest. ap (lex in_string) (append_assoc w v rest) ∙ first.passed (v ++ rest) ∙ then.passed rest;
 }
 
--- ---- bytes that stand for themselves
+-- ---- bytes that represent themselves
 
 abbrev IsPlainByte : ℕ → Type 0
 IsPlainByte x = (32 ≤ x) × (x ≢ 34) × (x ≢ 92)

@@ -5,12 +5,12 @@ use Rattle.json.specs.Lex.{in_string, lex}
 use Rattle.json.specs.Text.{content, plain, prepend}
 use Rattle.log_reader.specs.Names.{Name, value_name}
 
--- between the quotes of a JSON text, the bytes stand for these
+-- between the quotes of a JSON text, the bytes represent these
 pub record Spells (written spelled : List ℕ) : Type 0 where
   pub read : (rest : List ℕ) → content plain (written ++ rest) ≡ prepend spelled (content plain rest)
   pub passed : (rest : List ℕ) → lex in_string (written ++ rest) ≡ lex in_string rest
 
--- these bytes were put after a text, and bytes that stand for these
+-- these bytes were put after a text, and bytes that represent these
 abbrev pub Adds : List ℕ → List ℕ → List ℕ → Type 0
 Adds written old new = new ≡ old ++ written
 

@@ -1,6 +1,7 @@
 //! Reading a log of events from a source.
 
-ghost use Rattle.std.specs.Prelude.{◌≡◌, ◌+◌, ◌<◌, ◌≤◌, ℕ, max, [], IfErr, IfNone, IfOk, IfSome, OnErr, OnOk, OnSome, length, slice_get, string_bytes, Ok, Some};
+ghost use Rattle.std.specs.Prelude.{◌≡◌, ◌+◌, ◌<◌, ◌≤◌, ℕ, max, [], IfErr, IfNone, IfOk, IfSome, OnErr, OnOk, OnSome, length};
+ghost use Rattle.std.specs.Prelude.{slice_get, string_bytes, Ok, Some};
 ghost use Rattle.json_lines.specs.ReadCalls.{IsFurther};
 ghost use Rattle.log_reader.specs.LogCalls.{ReadsLineBy, ReadsLogBy};
 ghost use Rattle.log_reader.specs.ReadSteps.{Reads, ReadsLine};
@@ -108,10 +109,10 @@ impl EventReader {
     /// After [`Progress::More`] call it again with a greater number. Do not call it again after an end or a fault. It makes read calls only
     /// where it holds no whole line, and returns as soon as it has the events.
     ///
-    /// Refuses the first line that does not follow those before it; these have fewer events than were wanted. `Memory` where an allocation was refused, or where there
-    /// are more events, names or lines than have numbers; `Read` where the source fails, or a line did not end within the read
-    /// calls that are allowed for one line, and nowhere else. No read call is made after the end or after one that failed. O(n) for n bytes, on
-    /// average.
+    /// Refuses the first line that does not follow those before it; these have fewer events than were wanted. `Memory` where an
+    /// allocation was refused, or where there are more events, names or lines than have numbers; `Read` where the source fails,
+    /// or a line did not end within the read calls that are allowed for one line, and nowhere else. No read call is made after
+    /// the end or after one that failed. O(n) for n bytes, on average.
     pub fn read<R: Source>(&mut self, source: &mut R, most: u32) -> Result<Progress, LogFault>
         ensures read { IfOk result (Reads (R.remaining source.old) (R.remaining source.new) self.old self.new) }
         ensures fault { IfErr result (FaultsAt most (R.remaining source.old) self.old) }

@@ -83,7 +83,7 @@ fn hex_digit(digit: u32) -> char
     }
 }
 
-// Writes an escape of four digits to the base 16, which stands for a character.
+// Writes an escape of four digits to the base 16, which represents a character.
 fn push_escape(text: &mut String, code: u32) -> Result<(), AllocError>
     requires { code < 55296 }
     ensures shown { OnOk result (StaysShown (string_bytes text.old) (string_bytes text.new)) }

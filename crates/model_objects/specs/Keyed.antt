@@ -30,8 +30,8 @@ abbrev pub settles : {C : Type 0} → (C → C → Bool) → KeyedCall C → Key
 settles inner c other = (other.key == c.key) && inner c.call other.call
 
 module _ {S C O : Type 0} where
-  -- a table of starts and a list of states stand for a start and calls: the table is the start, and the state at a key
-  -- stands for the start and the calls at that key, of which there are none where there is no state
+  -- a table of starts and a list of states represent a start and calls: the table is the start, and the state at a key
+  -- represents the start and the calls at that key, of which there are none where there is no state
   pub record Stands (plain : S) (stands : O → S → List C → Type 0)
       (state : List (ℕ × S) × List (ℕ × O)) (start : List (ℕ × S)) (calls : List (KeyedCall C)) : Type 0 where
     pub start_kept : state.0 ≡ start

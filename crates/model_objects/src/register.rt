@@ -2,7 +2,8 @@
 
 ghost use Rattle.std.specs.Prelude.{◌≡◌, ◌⊎◌, ℕ, List, Bool};
 ghost use Rattle.std.proofs.Common.{rules};
-ghost use Rattle.model_objects.specs.Register.{answer as register_answer, depends as register_depends, is_read, settles as register_settles};
+ghost use Rattle.model_objects.specs.Register.{answer as register_answer, depends as register_depends, is_read};
+ghost use Rattle.model_objects.specs.Register.{settles as register_settles};
 ghost use Rattle.model_objects.specs.Register.{last_written, matches as register_matches};
 ghost use Rattle.model_objects.specs.Laws.Register.{answer_fits, others_change_nothing, query_changes_nothing, same_writes, write_and_read};
 ghost use Rattle.model_objects.specs.Laws.Register.{read_and_write, same_values, settled, done_and_value, value_and_done};

@@ -1,8 +1,8 @@
 //! Orders on the operations of a history, vectors that count them, and the topological rule.
 //!
 //! It gives [`Vectors`] with their check [`vector_ok`], [`Waits`] with [`topological_sort`], and [`Walk`], which places
-//! operations one by one. [`ByOperation`] and [`Rows`] are the lists under them. It uses model_object_trait and model_history. How lists are
-//! kept and how a cycle is found may change: callers rest on the contracts alone.
+//! operations one by one. [`ByOperation`] and [`Rows`] are the lists under them. It uses model_object_trait and model_history.
+//! How lists are kept and how a cycle is found may change: callers rest on the contracts alone.
 #![tactic(auto)]
 
 mod at_most;

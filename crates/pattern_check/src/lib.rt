@@ -1,9 +1,9 @@
 //! Bad patterns: what in a memory history shows that it does not meet a criterion.
 //!
-//! It gives [`Pattern`] and [`Kind`], the test [`check_pattern`], and [`Refutable`], which says of each object how a pattern against
-//! its histories is tested. [`laws`] says that a pattern excludes its criteria. It uses model_object_trait, model_objects, model_history, order_causal,
-//! order_memory and cert_check. How a pattern is tested may change: the contracts say exactly which patterns pass, and the law of
-//! [`Refutable`] what a test that passes shows.
+//! It gives [`Pattern`] and [`Kind`], the test [`check_pattern`], and [`Refutable`], which says of each object how a pattern
+//! against its histories is tested. [`laws`] says that a pattern excludes its criteria. It uses model_object_trait,
+//! model_objects, model_history, order_causal, order_memory and cert_check. How a pattern is tested may change: the contracts say
+//! exactly which patterns pass, and the law of [`Refutable`] what a test that passes shows.
 #![tactic(auto)]
 
 mod checking;

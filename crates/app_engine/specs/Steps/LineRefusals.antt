@@ -2,7 +2,7 @@
 use Rattle.std.specs.Prelude.{ℕ, List}
 use Rattle.json_lines.specs.declared.outcome.Outcome.{Outcome}
 use Rattle.app_engine.specs.declared.failure.RunError.{RunError}
-use Rattle.app_command_line.specs.declared.length.Length.{Length}
+use Rattle.app_orders.specs.declared.length.Length.{Length}
 use Rattle.app_engine.specs.LineAnswers.{IsLineError, IsLineRefusal}
 
 -- the text answers each line of which this error can come

@@ -1,6 +1,6 @@
 -- What can come in the place of a report on an input.
 use Rattle.std.specs.Prelude.{⊤, ℕ, List}
-use Rattle.app_command_line.specs.declared.length.Length.{Length}
+use Rattle.app_orders.specs.declared.length.Length.{Length}
 use Rattle.app_engine.specs.declared.failure.RunError.{RunError}
 use Rattle.app_engine.specs.declared.failure.RunError.TheVariants.{History, Memory}
 use Rattle.app_explanations.specs.Lengths.{IsRefusedAs}

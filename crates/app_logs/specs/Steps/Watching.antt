@@ -1,7 +1,7 @@
 -- What a turn of judging a log while it is read begins with, and what comes of it.
 use Rattle.std.specs.Prelude.{◌≡◌, ◌≢◌, ◌⊎◌, ◌*◌, ◌<◌, ℕ, suc, false, List, Option, None, length}
 use Rattle.std.specs.Io.KnownBytes.{Appends, Consumes}
-use Rattle.app_command_line.specs.declared.expected.Expected.{Expected}
+use Rattle.app_orders.specs.declared.expected.Expected.{Expected}
 use Rattle.json_lines.specs.declared.outcome.Outcome.{Outcome}
 use Rattle.json_lines.specs.declared.outcome.Outcome.TheVariants.{Met}
 use Rattle.log_events.specs.declared.event.Event.{Event}

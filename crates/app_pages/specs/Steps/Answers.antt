@@ -1,6 +1,6 @@
 -- What is answered to a log.
 use Rattle.std.specs.Prelude.{ℕ, List}
-use Rattle.app_command_line.specs.declared.log_order.LogOrder.{LogOrder}
+use Rattle.app_orders.specs.declared.log_order.LogOrder.{LogOrder}
 use Rattle.json_lines.specs.declared.outcome.Outcome.{Outcome}
 use Rattle.log_reader.specs.Logs.{Log}
 use Rattle.app_logs.specs.LogAnswers.{IsLogAnswer}

@@ -2,7 +2,7 @@
 use Rattle.std.specs.Prelude.{List, MatchOption, Option}
 use Rattle.clap.specs.Words.{Text}
 use Rattle.app_command_line.specs.CommandLine.{AsksNothing, IsCommandLine}
-use Rattle.app_command_line.specs.declared.manner.Asked.{Asked}
+use Rattle.app_orders.specs.declared.manner.Asked.{Asked}
 use Rattle.app_command_line.specs.declared.sight.Sight.{Sight}
 use Rattle.app_command_line.specs.declared.sight.Sight.TheVariants.{Unseen, Log, Memory, Other}
 use Rattle.app_process.specs.declared.choices.Choices.{Choices}

@@ -1,5 +1,5 @@
 -- What must have been named before an operation, where all that was named came after what its own vector counts: one
--- operation of another session stands for all that it counts.
+-- operation of another session represents all that it counts.
 use Rattle.std.specs.Prelude.{⊤, ◌≡◌, ◌≢◌, ◌⊎◌, ℕ, zero, suc, ◌+◌, ◌<◌, ◌≤◌, List, [], slice_index_or}
 use Rattle.model_history.specs.declared.op_id.OpId.{OpId}
 use Rattle.order_causal.specs.Orders.{op}

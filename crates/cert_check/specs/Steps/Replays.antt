@@ -15,7 +15,7 @@ abbrev pub kept_of : Kept → Ops
 kept_of (Only o) = only o
 kept_of (ProgramPast o) = program_past o
 
--- a replay has counted the first i numbers of a list, and its object stands for the calls of some operations
+-- a replay has counted the first i numbers of a list, and its object represents the calls of some operations
 pub record IsReplayAt {S C R X : Type 0} (stands : X → S → List C → Type 0) (h : HistoryValue S C R) (list : List ℕ) (i : ℕ) (taken : List OpId) (counts : List ℕ) (object : X) : Type 0 where
   pub counting : AreCountsAt list i (length h.1) counts
   pub state : stands object h.0 (calls h taken)

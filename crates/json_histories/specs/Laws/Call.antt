@@ -9,7 +9,7 @@ use Rattle.serde_json.specs.Written.{has_float}
 use Rattle.json_histories.specs.Json.{whole_number}
 use Rattle.json_histories.specs.Laws.Json.{map_from, whole_number-read}
 use Rattle.json_histories.specs.Spelling.{first_number, call_with, no_start_form, no_start_at}
-use Rattle.json_histories.specs.Laws.TableForm.{IsStartSpelling}
+use Rattle.json_histories.specs.Spelled.{IsStartSpelling}
 
 -- what is read by a word is read for this word, or for another one
 pub by_word : {A : Type 0} (w word : List ℕ) (here other : Option A) (a : A) → (if pointwise nat_eq w word then here else other) ≡ Some a

@@ -11,7 +11,7 @@ use Rattle.json_histories.specs.Laws.Call.{by_word, alone_read, number_said, don
 use Rattle.json_histories.specs.CounterForm.{word_of, arguments, ret_form, call_at, ret_at}
 use Rattle.json_histories.specs.Form.{HaveNoFloats}
 use Rattle.json_histories.specs.Json.{unknown}
-use Rattle.json_histories.specs.Laws.Spelled.{IsSpelling}
+use Rattle.json_histories.specs.Spelled.{IsSpelling}
 
 pub call_read : (w : List ℕ) (ds rest : List Data) (c : CounterCall) → call_at w ds ≡ Some (c, rest) → (w ≡ word_of c) × (ds ≡ arguments c ++ rest)
 call_read w ds rest c e =

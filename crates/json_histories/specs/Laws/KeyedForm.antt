@@ -10,7 +10,8 @@ use Rattle.model_objects.specs.declared.keyed.KeyedCall.{KeyedCall}
 use Rattle.json_histories.specs.Form.{Fits}
 use Rattle.json_histories.specs.Json.{list, elements, whole_number}
 use Rattle.json_histories.specs.Laws.Json.{elements-list, list_from_elements, and_then_from, map_from, chosen, whole_number-read, as_str-read}
-use Rattle.json_histories.specs.Laws.Spelled.{IsSpelling, spelled_read, spelled_again, rest_has_no_float}
+use Rattle.json_histories.specs.Laws.Spelled.{spelled_read, spelled_again, rest_has_no_float}
+use Rattle.json_histories.specs.Spelled.{IsSpelling}
 use Rattle.json_histories.specs.Spelling.{key_at, word_key_rest, rest_form, keyed_form, spelled_at, keyed_parts_at, keyed_at}
 
 -- ---- a word, a key and the rest

@@ -8,7 +8,8 @@ use Rattle.serde_json.specs.Written.{has_float}
 use Rattle.json_histories.specs.Form.{Fits, HaveNoFloats}
 use Rattle.json_histories.specs.Json.{list, elements}
 use Rattle.json_histories.specs.Laws.Json.{elements-list, list_from_elements, and_then_from, map_from, as_str-read}
-use Rattle.json_histories.specs.Laws.Spelled.{IsSpelling, spelled_read, spelled_again, rest_has_no_float}
+use Rattle.json_histories.specs.Laws.Spelled.{spelled_read, spelled_again, rest_has_no_float}
+use Rattle.json_histories.specs.Spelled.{IsSpelling}
 use Rattle.json_histories.specs.Spelling.{word_rest, rest_form, plain_form, spelled_at, plain_at, plain_start_form, plain_start_at}
 
 -- two parts of a list, and the parts of a pair

@@ -9,7 +9,7 @@ use Rattle.model_objects.specs.declared.queue.QueueRet.TheVariants.{Done, Popped
 use Rattle.json_histories.specs.Laws.Call.{number_or_alone_read, number_said, done_read}
 use Rattle.json_histories.specs.Form.{HaveNoFloats}
 use Rattle.json_histories.specs.Json.{unknown, whole_number}
-use Rattle.json_histories.specs.Laws.Spelled.{IsSpelling}
+use Rattle.json_histories.specs.Spelled.{IsSpelling}
 use Rattle.json_histories.specs.QueueForm.{word_of, arguments, ret_form, call_at, popped_at, ret_at}
 
 pub call_read : (w : List ℕ) (ds rest : List Data) (c : QueueCall) → call_at w ds ≡ Some (c, rest) → (w ≡ word_of c) × (ds ≡ arguments c ++ rest)

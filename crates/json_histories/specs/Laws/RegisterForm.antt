@@ -14,8 +14,7 @@ use Rattle.json_histories.specs.Form.{HaveNoFloats}
 use Rattle.json_histories.specs.Json.{whole_number, unknown}
 use Rattle.json_histories.specs.Laws.Json.{whole_number-read}
 use Rattle.json_histories.specs.Laws.Call.{number_or_alone_read, number_said, done_read}
-use Rattle.json_histories.specs.Laws.Spelled.{IsSpelling}
-use Rattle.json_histories.specs.Laws.TableForm.{IsStartSpelling}
+use Rattle.json_histories.specs.Spelled.{IsSpelling, IsStartSpelling}
 use Rattle.json_histories.specs.RegisterForm.{word_of, arguments, ret_form, call_at, ret_at, start_form, start_at}
 
 pub call_read : (w : List ℕ) (ds rest : List Data) (c : RegisterCall) → call_at w ds ≡ Some (c, rest) → (w ≡ word_of c) × (ds ≡ arguments c ++ rest)

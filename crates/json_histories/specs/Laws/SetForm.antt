@@ -11,7 +11,7 @@ use Rattle.model_objects.specs.declared.add_remove_set.SetRet.TheVariants.{Done,
 use Rattle.json_histories.specs.Laws.Call.{by_word, with_number_read, said_read, done_read}
 use Rattle.json_histories.specs.Form.{HaveNoFloats}
 use Rattle.json_histories.specs.Json.{unknown}
-use Rattle.json_histories.specs.Laws.Spelled.{IsSpelling}
+use Rattle.json_histories.specs.Spelled.{IsSpelling}
 use Rattle.json_histories.specs.SetForm.{word_of, arguments, ret_form, call_at, ret_at}
 use Rattle.json_histories.specs.Spelling.{call_with}
 

@@ -10,6 +10,7 @@ use Rattle.serde_json.specs.Written.{has_float, items_have_float}
 use Rattle.json_histories.specs.Form.{Fits, HaveNoFloats}
 use Rattle.json_histories.specs.Json.{unknown}
 use Rattle.json_histories.specs.Laws.Json.{and_then_from, map_from, is_unknown-read}
+use Rattle.json_histories.specs.Spelled.{IsSpelling}
 use Rattle.json_histories.specs.Spelling.{is_unknown_alone, rest_form, return_at, spelled_at}
 
 -- ---- `"?"` or a return
@@ -34,17 +35,6 @@ both_have_no_float [] es first second = second
 both_have_no_float (d ∷ ds) es first second =
     let p = neither (has_float d) (items_have_float (items_of ds)) first in
     rw (p.0, both_have_no_float ds es p.1 second) refl
-
--- reading undoes the spelling of calls and returns, nothing else is read, and no number in it is a float
-pub record IsSpelling {C R : Type 0} (word_of : C → List ℕ) (arguments : C → List Data) (ret_form : R → List Data)
-    (call_at : List ℕ → List Data → Option (C × List Data)) (ret_at : C → List Data → Option R) (fits : C → R → Bool) : Type 0 where
-  pub call_read : (w : List ℕ) (ds rest : List Data) (c : C) → call_at w ds ≡ Some (c, rest) → (w ≡ word_of c) × (ds ≡ arguments c ++ rest)
-  pub call_again : (c : C) (rest : List Data) → call_at (word_of c) (arguments c ++ rest) ≡ Some (c, rest)
-  pub ret_read : (c : C) (ds : List Data) (r : R) → ret_at c ds ≡ Some r → (ds ≡ ret_form r) × (fits c r ≡ true)
-  pub ret_again : (c : C) (r : R) → fits c r ≡ true → ret_at c (ret_form r) ≡ Some r
-  pub ret_is_known : (r : R) → ret_form r ≢ unknown ∷ []
-  pub arguments_have_no_float : (c : C) → HaveNoFloats (arguments c)
-  pub ret_has_no_float : (r : R) → HaveNoFloats (ret_form r)
 
 module _ {C R : Type 0} {word_of : C → List ℕ} {arguments : C → List Data} {ret_form : R → List Data}
     {call_at : List ℕ → List Data → Option (C × List Data)} {ret_at : C → List Data → Option R} {fits : C → R → Bool}

@@ -18,12 +18,6 @@ use Rattle.json_histories.specs.Laws.Json.{elements-list, list_from_elements, an
 use Rattle.json_histories.specs.Laws.KeyedForm.{key_at-read, key_at-again}
 use Rattle.json_histories.specs.Spelling.{key_at, is_above, entry_form, table_form, entry_parts_at, entry_at, entries_at, table_elements, table_at}
 
--- reading undoes the form of a start that isn't the plain one, nothing else is read, and no number in it is a float
-pub record IsStartSpelling {S : Type 0} (plain : S) (is_start : S → Type 0) (start_form : S → Data) (start_at : Data → Option S) : Type 0 where
-  pub start_read : (d : Data) (s : S) → start_at d ≡ Some s → (d ≡ start_form s) × is_start s × (s ≢ plain)
-  pub start_again : (s : S) → is_start s → s ≢ plain → start_at (start_form s) ≡ Some s
-  pub start_has_no_float : (s : S) → has_float (start_form s) ≡ false
-
 -- keys that rise from above a key
 abbrev pub Rise : {S : Type 0} → Option ℕ → List (ℕ × S) → Type 0
 Rise before [] = Unit {0}

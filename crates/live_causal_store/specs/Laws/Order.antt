@@ -1,4 +1,4 @@
--- Laws of the order in which updates were taken in.
+-- Laws of the order in which updates were delivered.
 use Rattle.std.specs.Prelude.{◌≤◌, List, length}
 use Rattle.std.proofs.Common.{arith}
 use Rattle.live_replica.specs.Orders.{Key}

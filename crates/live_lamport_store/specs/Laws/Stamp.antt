@@ -183,7 +183,7 @@ module _ (k : Key) where
   first-ones (b ∷ ks) rising zero a at = subst (λ (x : Key). IsFirstOne (b ∷ ks) 0 x) (same_Some b a at) (first-here b ks rising (is_before b) refl)
   first-ones (b ∷ ks) rising (suc i) a at = first-later b ks rising i a at (first-ones ks (rising-rest b ks rising) i a at) (is_before b) refl
 
--- an update that is taken in
+-- an update that is delivered
 pub rising_taken : (ks : List Key) (k : Key) → IsRising ks → IsNew ks k → IsRising (insert ks (place_by_stamp ks k) k)
 rising_taken ks k rising new = rising-insert ks (place_by_stamp ks k) k (count_by-le-length _ ks) rising
     (λ i a below at. before i a below at (is_before k a) refl)

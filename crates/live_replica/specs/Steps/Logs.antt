@@ -20,17 +20,17 @@ pub record IsTally {C : Type 0} (updates : List (UpdateOf C)) (counts ends : Lis
   pub counted : (s : ℕ) → s < MAX_SESSIONS → slice_index counts s ≡ many updates s
   pub ended : (s : ℕ) → s < MAX_SESSIONS → slice_index ends s ≡ reach updates s
 
--- a state stands for these calls, with queries put between them
+-- a state represents these calls, with queries put between them
 abbrev pub Serves : {S C Z : Type 0} → (C → Bool) → (Z → S → List C → Type 0) → Z → S → List C → Type 0
 Serves {S} {C} {Z} query stands z start cs = (ds : List C) × SameUpdates query cs ds × stands z start ds
 
--- a state has taken in so many of the updates, the first ones
+-- a state has applied so many of the updates, the first ones
 pub record HasTaken {S C Z : Type 0} (query : C → Bool) (stands : Z → S → List C → Type 0) (object : Z) (start : S) (updates : List (UpdateOf C)) (n : ℕ) : Type 0 where
   pub within : n ≤ length updates
   pub serves : Serves query stands object start (calls (take n updates))
 
--- the object has taken in so many of the updates, the first ones, or it has to go on from an earlier state; each checkpoint
--- has taken in as many as it says, none fewer than those before it and none more than the object
+-- the object has applied so many of the updates, the first ones, or it has to go on from an earlier state; each checkpoint
+-- has delivered as many as it says, none fewer than those before it and none more than the object
 pub record IsFollowing {S C Z : Type 0} (query : C → Bool) (stands : Z → S → List C → Type 0) (object : Z) (start : S) (updates : List (UpdateOf C)) (applied : Option ℕ) (checkpoints : List (Checkpoint Z)) : Type 0 where
   pub taken : (n : ℕ) → applied ≡ Some n → HasTaken query stands object start updates n
   pub each : All (λ c. HasTaken query stands c.object start updates c.applied) checkpoints
@@ -50,7 +50,7 @@ pub record IsReplica (session sessions operations room held : ℕ) : Type 0 wher
   pub short : operations ≤ MAX_OPERATIONS
   pub spare : held ≤ room
 
--- what is kept of the updates that the replica of a session has taken in: the clock has come to their stamps, they are in the
+-- what is kept of the updates that the replica of a session has delivered: the clock has come to their stamps, they are in the
 -- order of the store, and with causal delivery each came behind all that it depends on
 pub record IsKept {C : Type 0} (place : Place) (in_order : List Key → Type 0) (session : ℕ) (delivery : Delivery) (clock : ℕ) (taken : List (UpdateOf C)) : Type 0 where
   pub stamped : (i : ℕ) (u : UpdateOf C) → slice_get taken i ≡ Some u → u.stamp ≤ clock

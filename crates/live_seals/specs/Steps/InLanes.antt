@@ -22,7 +22,7 @@ module _ {C R : Type 0} where
   abbrev pub IsReturnFoundAt : List Cells → OpId → ℕ × Option (Entry C R) → Type 0
   IsReturnFoundAt lanes o n = (lane : Cells) × (slice_get lanes o.session ≡ Some lane) × IsReturnFound lane o.index n
 
-  -- one of these receipts is of a lane, and stands for so many operations
+  -- one of these receipts is of a lane, and represents so many operations
   abbrev pub HasReceipt : List (ReceiptState C R) → ℕ → ℕ → Type 0
   HasReceipt rs s many = (j : ℕ) × (r : ReceiptState C R) × (slice_get rs j ≡ Some r) × (r.lane ≡ s) × (length r.operations ≡ many)
 

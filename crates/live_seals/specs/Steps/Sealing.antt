@@ -11,7 +11,7 @@ use Rattle.live_seals.specs.Steps.Tables.{IsReturnedAs, SealedNotes, TableState,
 use Rattle.live_seals.specs.Steps.Comparing.{ReturnAgrees}
 
 module _ {C R : Type 0} where
-  -- a receipt of this lane stands for so many operations, if any
+  -- a receipt of this lane represents so many operations, if any
   abbrev pub IsToldBy : List (ReceiptState C R) → Cells → LongestReceipt → Type 0
   IsToldBy rs lane best = 0 < best.count → (r : ReceiptState C R) × (slice_get rs best.at ≡ Some r) × (length r.operations ≡ best.count) × ((i x : ℕ) → slice_get r.cells i ≡ Some x → slice_get lane.returns i ≡ Some x)
 
@@ -59,7 +59,7 @@ pub record AreSealedSessions {S C R : Type 0} (fits : C → R → Bool) (h : His
   pub each : (s : ℕ) (l : SealedNotes C R) → slice_get ls s ≡ Some l → IsSealedSession fits (session h s) l
 
 module _ {C R : Type 0} where
-  -- a session as it was sealed from its lane: it has all that receipts of the lane stand for
+  -- a session as it was sealed from its lane: it has all that receipts of the lane represent
   pub record IsLaneSealed (fits : C → R → Bool) (lane : Cells) (rs : List (ReceiptState C R)) (s : ℕ) (es : List (C × Option R)) (l : SealedNotes C R) : Type 0 where
     pub session : IsSealedSession fits es l
     pub notes : AreNotesOf lane l

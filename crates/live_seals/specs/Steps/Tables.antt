@@ -64,7 +64,7 @@ module _ {C R : Type 0} where
     pub many : length ts ≡ length lanes
     pub each : (s : ℕ) (lane : Cells) (t : TableState C R) → slice_get lanes s ≡ Some lane → slice_get ts s ≡ Some t → IsTable lane t
 
-  -- of the first n receipts those of a lane stand for at most so many operations, and one of them for as many
+  -- of the first n receipts those of a lane represent at most so many operations, and one of them for as many
   pub record IsLongest (rs : List (ReceiptState C R)) (s n : ℕ) (best : LongestReceipt) : Type 0 where
     pub most : (j : ℕ) (r : ReceiptState C R) → j < n → slice_get rs j ≡ Some r → r.lane ≡ s → length r.operations ≤ best.count
     pub reached : 0 < best.count → (r : ReceiptState C R) × (slice_get rs best.at ≡ Some r) × (r.lane ≡ s) × (length r.operations ≡ best.count) × (length r.cells ≡ best.count)

@@ -1,4 +1,4 @@
--- What decides which operations the calls of a log stand for.
+-- What decides which operations the calls of a log represent.
 use Rattle.std.specs.Prelude.{◌↔◌, ℕ, All, Contains, IsTrue, List}
 use Rattle.std.specs.Ordering.{nat_cmp, ordering_then}
 use Rattle.std.specs.List.Sorted.{IsSorted, IsStrictlyIncreasing}

@@ -1,8 +1,8 @@
 use Rattle.std.proofs.Common.{subst, sym}
 use Rattle.std.proofs.lemmas.Result.{IfOk-weaker}
 use Rattle.std.specs.Prelude.{IfOk, string_bytes}
-use Rattle.app_command_line.specs.declared.form.Form.TheVariants.{Certificates, Json, Picture, Words}
-use Rattle.app_command_line.specs.declared.order.Order.TheVariants.{Explain}
+use Rattle.app_orders.specs.declared.form.Form.TheVariants.{Certificates, Json, Picture, Words}
+use Rattle.app_orders.specs.declared.order.Order.TheVariants.{Explain}
 use Rattle.app_engine.specs.Running.{IsOutput}
 use Rattle.app_engine.proofs.Explained.{output_as_json, output_in_words, output_with_certificates}
 use Rattle.app_engine.proofs.explaining.text_in.Goals as goal

@@ -1,4 +1,4 @@
-use Rattle.app_command_line.specs.declared.length.Length.TheVariants.{Limited}
+use Rattle.app_orders.specs.declared.length.Length.TheVariants.{Limited}
 use Rattle.app_engine.proofs.Agreed.{findings_agree}
 use Rattle.app_engine.proofs.laws.explanations_agree_with_reports.Goals as goal
 

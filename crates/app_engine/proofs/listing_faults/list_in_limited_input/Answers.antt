@@ -1,5 +1,5 @@
 use Rattle.std.specs.Prelude.{string_bytes}
-use Rattle.app_command_line.specs.declared.length.Length.TheVariants.{Limited}
+use Rattle.app_orders.specs.declared.length.Length.TheVariants.{Limited}
 use Rattle.app_engine.proofs.LongOutputs.{listed_output}
 use Rattle.app_engine.proofs.listing_faults.list_in_limited_input.Goals as goal
 

@@ -1,5 +1,5 @@
 use Rattle.std.specs.Prelude.{string_bytes}
-use Rattle.app_command_line.specs.declared.length.Length.TheVariants.{Any}
+use Rattle.app_orders.specs.declared.length.Length.TheVariants.{Any}
 use Rattle.json_histories.specs.declared.any_history.AnyHistory.TheVariants as histories
 use Rattle.app_engine.proofs.LongOutputs.{listed_output}
 use Rattle.app_engine.proofs.listing_faults.list_in_long_input.Goals as goal

@@ -1,7 +1,7 @@
 use Rattle.std.proofs.Common.{ap, ◌∙◌}
 use Rattle.std.specs.Prelude.{IsTrue}
 use Rattle.live_case_board.specs.declared.answer.Answer.TheVariants.{No}
-use Rattle.app_command_line.specs.declared.length.Length.TheVariants.{Any}
+use Rattle.app_orders.specs.declared.length.Length.TheVariants.{Any}
 use Rattle.json_histories.specs.declared.any_history.AnyHistory.TheVariants as histories
 use Rattle.app_engine.specs.Refuting.{claim_form}
 use Rattle.app_explanations.specs.Report.{line_for}

@@ -1,5 +1,5 @@
 use Rattle.std.specs.Prelude.{IsTrue}
-use Rattle.app_command_line.specs.declared.length.Length.TheVariants.{Limited}
+use Rattle.app_orders.specs.declared.length.Length.TheVariants.{Limited}
 use Rattle.app_engine.specs.Refuting.{claim_form}
 use Rattle.app_engine.proofs.Claims.{claim_not_shown}
 use Rattle.app_engine.proofs.refuting.refute.Goals as goal

@@ -1,6 +1,6 @@
 use Rattle.std.specs.Prelude.{string_bytes}
 use Rattle.json_histories.specs.declared.any_history.AnyHistory.TheVariants as histories
-use Rattle.app_command_line.specs.declared.length.Length.TheVariants.{Any}
+use Rattle.app_orders.specs.declared.length.Length.TheVariants.{Any}
 use Rattle.app_explanations.proofs.ListedTexts.{told_as_json}
 use Rattle.app_explanations.proofs.explained.json_of_larger.Goals as goal
 

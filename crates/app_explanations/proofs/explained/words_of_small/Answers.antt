@@ -3,7 +3,7 @@ use Rattle.std.specs.Prelude.{string_bytes}
 use Rattle.order_memory.specs.Memory.{MemoryHistory}
 use Rattle.json_histories.specs.declared.any_history.AnyHistory.TheVariants as histories
 use Rattle.app_findings.specs.declared.kept.Kept.TheVariants.{Reasons}
-use Rattle.app_command_line.specs.declared.length.Length.TheVariants.{Limited}
+use Rattle.app_orders.specs.declared.length.Length.TheVariants.{Limited}
 use Rattle.app_explanations.specs.ExplanationTexts.{IsWordsOf}
 use Rattle.app_explanations.proofs.ListedTexts.{told_in_words}
 use Rattle.app_explanations.proofs.Reports.{found_limited}

@@ -1,5 +1,5 @@
 use Rattle.app_findings.specs.declared.kept.Kept.TheVariants.{Patterns}
-use Rattle.app_command_line.specs.declared.length.Length.TheVariants.{Limited}
+use Rattle.app_orders.specs.declared.length.Length.TheVariants.{Limited}
 use Rattle.app_explanations.proofs.Reports.{found_limited}
 use Rattle.app_explanations.proofs.fault_lists.json_in_limited.Goals as goal
 

@@ -3,7 +3,7 @@ use Rattle.std.specs.Prelude.{string_bytes}
 use Rattle.std.proofs.lemmas.Result.{IfOk-weaker}
 use Rattle.order_memory.specs.Memory.{MemoryHistory}
 use Rattle.json_histories.specs.declared.any_history.AnyHistory.TheVariants as histories
-use Rattle.app_command_line.specs.declared.length.Length.TheVariants.{Any}
+use Rattle.app_orders.specs.declared.length.Length.TheVariants.{Any}
 use Rattle.app_explanations.specs.ListTexts.{IsListBy}
 use Rattle.app_explanations.proofs.Reports.{listed_any}
 use Rattle.app_explanations.proofs.fault_lists.list_of_long.Goals as goal

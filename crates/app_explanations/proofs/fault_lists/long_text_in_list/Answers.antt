@@ -1,7 +1,7 @@
 use Rattle.std.specs.Prelude.{string_bytes}
 use Rattle.std.proofs.lemmas.Result.{IfOk-weaker}
 use Rattle.json_histories.specs.declared.any_history.AnyHistory.TheVariants as histories
-use Rattle.app_command_line.specs.declared.length.Length.TheVariants.{Any}
+use Rattle.app_orders.specs.declared.length.Length.TheVariants.{Any}
 use Rattle.app_explanations.proofs.fault_lists.long_text_in_list.Goals as goal
 
 pub returns : goal.returns

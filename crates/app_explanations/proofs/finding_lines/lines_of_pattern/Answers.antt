@@ -2,7 +2,7 @@ use Rattle.std.proofs.Common.{IfOk, subst}
 use Rattle.std.specs.Prelude.{IfSome, string_bytes}
 use Rattle.order_memory.specs.Memory.{MemoryHistory}
 use Rattle.json_histories.specs.declared.any_history.AnyHistory.TheVariants as histories
-use Rattle.app_command_line.specs.declared.length.Length.TheVariants.{Limited}
+use Rattle.app_orders.specs.declared.length.Length.TheVariants.{Limited}
 use Rattle.app_explanations.specs.CoresInWords.{IsTextOfCore}
 use Rattle.app_explanations.proofs.finding_lines.lines_of_pattern.Goals as goal
 

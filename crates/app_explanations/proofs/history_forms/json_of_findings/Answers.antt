@@ -1,5 +1,5 @@
 use Rattle.std.specs.Prelude.{string_bytes}
-use Rattle.app_command_line.specs.declared.length.Length.TheVariants.{Limited}
+use Rattle.app_orders.specs.declared.length.Length.TheVariants.{Limited}
 use Rattle.app_explanations.proofs.ListedTexts.{told_as_json}
 use Rattle.app_explanations.proofs.history_forms.json_of_findings.Goals as goal
 

@@ -1,4 +1,4 @@
-use Rattle.app_command_line.specs.declared.length.Length.TheVariants.{Limited}
+use Rattle.app_orders.specs.declared.length.Length.TheVariants.{Limited}
 use Rattle.app_explanations.specs.Steps.Examining.{history_of}
 use Rattle.app_explanations.proofs.history_words.text_of_examined.Goals as goal
 

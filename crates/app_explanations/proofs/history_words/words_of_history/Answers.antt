@@ -1,7 +1,7 @@
 use Rattle.std.proofs.Common.{IfOk, subst, sym}
 use Rattle.std.specs.Prelude.{string_bytes}
 use Rattle.json_histories.specs.declared.any_history.AnyHistory.{AnyHistory}
-use Rattle.app_command_line.specs.declared.length.Length.TheVariants.{Limited}
+use Rattle.app_orders.specs.declared.length.Length.TheVariants.{Limited}
 use Rattle.app_explanations.specs.ExplanationTexts.{IsWordsOf}
 use Rattle.app_explanations.proofs.history_words.words_of_history.Goals as goal
 

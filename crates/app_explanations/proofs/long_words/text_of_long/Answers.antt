@@ -1,5 +1,5 @@
 use Rattle.json_histories.specs.declared.any_history.AnyHistory.TheVariants as histories
-use Rattle.app_command_line.specs.declared.length.Length.TheVariants.{Any}
+use Rattle.app_orders.specs.declared.length.Length.TheVariants.{Any}
 use Rattle.app_explanations.proofs.long_words.text_of_long.Goals as goal
 
 pub returns : goal.returns

@@ -2,7 +2,7 @@ use Rattle.std.specs.Prelude.{◌≡◌}
 use Rattle.std.proofs.Common.{subst}
 use Rattle.order_memory.specs.Memory.{MemoryHistory}
 use Rattle.json_histories.specs.declared.any_history.AnyHistory.TheVariants as histories
-use Rattle.app_command_line.specs.declared.length.Length.TheVariants.{Any}
+use Rattle.app_orders.specs.declared.length.Length.TheVariants.{Any}
 use Rattle.app_findings.specs.Findings.{EachIsKnownOnDistinctValues, EachNamesUnexplained}
 use Rattle.app_explanations.specs.Report.{EachIsTrueAt}
 use Rattle.log_events.specs.Histories.{history_of}

@@ -1,6 +1,6 @@
 -- The first form on which the words ask for something.
 use Rattle.std.proofs.Common.{Option, map, string_bytes, subst}
-use Rattle.app_command_line.specs.declared.manner.Asked.{Asked}
+use Rattle.app_orders.specs.declared.manner.Asked.{Asked}
 use Rattle.app_command_line.specs.declared.sight.Sight.TheVariants.{Memory, Other}
 use Rattle.app_process.specs.Steps.Choices.{IsChoice}
 use Rattle.app_process.proofs.choices.Choices.any.Goals as goal

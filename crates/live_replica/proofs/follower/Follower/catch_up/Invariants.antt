@@ -3,7 +3,7 @@ use Rattle.std.specs.Prelude.{Some}
 use Rattle.live_replica.specs.Steps.Logs.{IsFollowing}
 use Rattle.live_replica.proofs.follower.Follower.catch_up.Given as goal
 
--- the object has taken in the updates so far
+-- the object has applied the updates so far
 abbrev pub invariant-loop-at : goal.invariant-loop-at
 invariant-loop-at g l = record {
   start : l.self.start ≡ l.fn.self.start;

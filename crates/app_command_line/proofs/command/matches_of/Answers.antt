@@ -2,7 +2,7 @@
 use Rattle.std.proofs.Common.{◌≡◌, map, subst, refl, true}
 use Rattle.clap.specs.Words.{App, fault_of, is_simple_and_free, FailsBy}
 use Rattle.app_command_line.proofs.Usages.{refused_by_a_kind, taken_without_fault}
-use Rattle.app_command_line.proofs.order.matches_of.Goals as goal
+use Rattle.app_command_line.proofs.command.matches_of.Goals as goal
 
 pub returns-clause-accepted : goal.returns-clause-accepted
 returns-clause-accepted g c =

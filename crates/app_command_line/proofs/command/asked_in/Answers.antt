@@ -1,6 +1,6 @@
 -- The command's word is the second one of the command line.
 use Rattle.app_command_line.proofs.Words.{too_few, whole_command}
-use Rattle.app_command_line.proofs.order.asked_in.Goals as goal
+use Rattle.app_command_line.proofs.command.asked_in.Goals as goal
 
 pub returns-in_default : goal.returns-in_default
 returns-in_default g c = too_few g.S.AsStr.text c.args.sight c.args.words.now c.in_default.len_below

@@ -1,65 +1,21 @@
-//! The command line.
+//! What a command line asks for, or why it asks for nothing.
 ghost use Rattle.std.specs.Prelude.{◌≡◌, [], IfErr, IfOk, MatchOption, MatchResult, map, string_bytes};
 ghost use Rattle.clap.specs.Words.{HasKind, fault_of, kind_of};
 ghost use Rattle.app_command_line.specs.CommandLine.{AsksNothing, IsCommandLine, IsFault, IsUsageBy, IsUsageFor, IsUsageOf};
 ghost use Rattle.app_command_line.specs.CommandLine.{IsFaultWith, command_line};
 ghost use Rattle.app_command_line.specs.Shown.{IsHelpFor, version_text};
 
-use crate::detail::Detail;
-use crate::drive::Drive;
-use crate::form::{Form, LongForm};
-use crate::judging::Judging;
-use crate::length::Length;
-use crate::line_judging::LineJudging;
-use crate::listing::Listing;
-use crate::log_order::LogOrder;
-use crate::manner::Asked;
 use crate::misuse::text_of_misuse;
 use crate::options::asked_of;
-use crate::page::Page;
 use crate::program::program;
 use crate::shown::{help_for, version_of};
 use crate::sight::Sight;
 use crate::topics::topic_in;
+use app_orders::Asked;
 use clap::error::ErrorKind;
 use clap::{ArgMatches, Error};
-use judge_workers::Workers;
 use std::alloc::{AllocError, Global};
 use std::convert::AsStr;
-
-/// What a command line asks for.
-#[derive(Clone, Copy, Debug, PartialEq, Eq)]
-pub enum Task {
-    /// An order on an input, which is read whole, or line by line; and how much the program says if the input is refused.
-    OfInput(Order, Detail),
-    /// A page on an input or on a log of events; and how much the program says if the input is refused.
-    OfPage(Page, Detail),
-    /// An order on a log of events, which is read event by event.
-    OfLog(LogOrder),
-}
-
-/// A command on an input, with its options.
-#[derive(Clone, Copy, Debug, PartialEq, Eq)]
-pub enum Order {
-    /// Judges the history in the input.
-    Judge(Judging),
-    /// Judges the history in each line of the input.
-    JudgeLines(LineJudging),
-    /// Checks the certificate in the input against the history in it, by so many workers.
-    Check(Workers),
-    /// Says in this form why each criterion is met or not met by the history in the input, or why that is unknown.
-    Explain(Form),
-    /// Says the same of the memory history in the input, which may have any length.
-    ExplainLong(LongForm),
-    /// Says it too, and lists reads of the history in the input that show a fault.
-    ListFaults(Listing),
-    /// Checks that the pattern in the input shows that the history in it, which may be that long, does not meet a criterion.
-    Refute(Length),
-    /// Runs the script in the input.
-    Replay,
-    /// Drives a store with the calls of the history in the input.
-    Drive(Drive),
-}
 
 /// Why a command line gives no task.
 #[derive(Debug, Drop)]

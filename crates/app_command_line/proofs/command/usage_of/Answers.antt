@@ -1,6 +1,6 @@
 -- What is said of an error of `clap` is said of a fault in the words.
 use Rattle.app_command_line.proofs.Usages.{said_without_fault, usage_among}
-use Rattle.app_command_line.proofs.order.usage_of.Goals as goal
+use Rattle.app_command_line.proofs.command.usage_of.Goals as goal
 
 pub returns : goal.returns
 returns g c = usage_among _ _ c.in-Err.error _ c.in-Err.ensures.refused c.usage_by.ensures

@@ -1,8 +1,8 @@
 //! How histories are judged.
 
 ghost use Rattle.std.specs.Prelude.{◌≡◌};
-ghost use Rattle.app_command_line.specs.Expected.{expecting_nothing};
-ghost use Rattle.app_command_line.specs.declared.length.Length.TheVariants.{Limited};
+ghost use Rattle.app_orders.specs.Expected.{expecting_nothing};
+ghost use Rattle.app_orders.specs.declared.length.Length.TheVariants.{Limited};
 
 use crate::expected::Expected;
 use crate::length::Length;
