@@ -57,15 +57,9 @@ fn is_pattern_of(
     ensures exact { IfOk result (λ yes. IsTrue yes ↔ IsPatternOf history.now criterion pattern.now) }
     ensures excluded { IfOk result (λ yes. IsTrue yes → IsExcluded history.now criterion (kind_of pattern.now)) }
 {
-    match history {
-        AnyHistory::Memory(history) => check_pattern(alloc, history, criterion, pattern),
-        AnyHistory::Register(_)
-        | AnyHistory::Counter(_)
-        | AnyHistory::Set(_)
-        | AnyHistory::Queue(_)
-        | AnyHistory::Counters(_)
-        | AnyHistory::Sets(_)
-        | AnyHistory::Queues(_) => Ok(false),
+    match history.as_memory() {
+        Some(history) => check_pattern(alloc, history, criterion, pattern),
+        None => Ok(false),
     }
 }
 

@@ -188,15 +188,9 @@ fn words_in_limited<W: PieceWork, N: Names>(
     requires { W.can_check work.now }
     ensures { IfOk result (λ text. IsListInWords Limited most history.now (string_bytes text)) }
 {
-    match history {
-        AnyHistory::Memory(memory) => words_on_memory(work, alloc, memory, long, names, most),
-        AnyHistory::Register(_)
-        | AnyHistory::Counter(_)
-        | AnyHistory::Set(_)
-        | AnyHistory::Queue(_)
-        | AnyHistory::Counters(_)
-        | AnyHistory::Sets(_)
-        | AnyHistory::Queues(_) => words_on_object(work, alloc, history, long, names, most),
+    match history.as_memory() {
+        Some(memory) => words_on_memory(work, alloc, memory, long, names, most),
+        None => words_on_object(work, alloc, history, long, names, most),
     }
 }
 

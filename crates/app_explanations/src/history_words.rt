@@ -30,15 +30,9 @@ pub fn words_of_history<W: PieceWork>(
     requires { W.can_check work.now }
     ensures { IfOk result (λ text. IsWordsOf Limited history.now (string_bytes text)) }
 {
-    match history {
-        AnyHistory::Memory(memory) => words_of_memory(work, alloc, memory),
-        AnyHistory::Register(_)
-        | AnyHistory::Counter(_)
-        | AnyHistory::Set(_)
-        | AnyHistory::Queue(_)
-        | AnyHistory::Counters(_)
-        | AnyHistory::Sets(_)
-        | AnyHistory::Queues(_) => words_of_object(work, alloc, history),
+    match history.as_memory() {
+        Some(memory) => words_of_memory(work, alloc, memory),
+        None => words_of_object(work, alloc, history),
     }
 }
 

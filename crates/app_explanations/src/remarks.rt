@@ -144,15 +144,9 @@ fn remark_on_part(
 ) -> Result<Option<Remark>, AllocError>
     ensures { IfOk result (IsRemarkOnPart history.now criterion) }
 {
-    match history {
-        AnyHistory::Memory(memory) => remark_on_part_of_memory(alloc, memory, criterion),
-        AnyHistory::Register(_)
-        | AnyHistory::Counter(_)
-        | AnyHistory::Set(_)
-        | AnyHistory::Queue(_)
-        | AnyHistory::Counters(_)
-        | AnyHistory::Sets(_)
-        | AnyHistory::Queues(_) => Ok(None),
+    match history.as_memory() {
+        Some(memory) => remark_on_part_of_memory(alloc, memory, criterion),
+        None => Ok(None),
     }
 }
 

@@ -39,15 +39,9 @@ pub fn report_on<W: PieceWork>(
     requires { W.can_check work.now }
     ensures { IfOk result (EachIsFound Answers history.now) }
 {
-    match history {
-        AnyHistory::Memory(memory) => report_on_memory(work, alloc, memory, advice),
-        AnyHistory::Register(_)
-        | AnyHistory::Counter(_)
-        | AnyHistory::Set(_)
-        | AnyHistory::Queue(_)
-        | AnyHistory::Counters(_)
-        | AnyHistory::Sets(_)
-        | AnyHistory::Queues(_) => findings_of_object(work, alloc, history, advice, Kept::Answers),
+    match history.as_memory() {
+        Some(memory) => report_on_memory(work, alloc, memory, advice),
+        None => findings_of_object(work, alloc, history, advice, Kept::Answers),
     }
 }
 
@@ -71,18 +65,12 @@ pub fn findings_of<W: PieceWork>(
     requires { W.can_check work.now }
     ensures { IfOk result (EachIsFound kept history.now) }
 {
-    match history {
-        AnyHistory::Memory(memory) => {
+    match history.as_memory() {
+        Some(memory) => {
             let memory = IndexedMemory::of(alloc, memory)?;
             findings_of_memory(work, alloc, &memory, kept)
         }
-        AnyHistory::Register(_)
-        | AnyHistory::Counter(_)
-        | AnyHistory::Set(_)
-        | AnyHistory::Queue(_)
-        | AnyHistory::Counters(_)
-        | AnyHistory::Sets(_)
-        | AnyHistory::Queues(_) => findings_of_object(work, alloc, history, &[], kept),
+        None => findings_of_object(work, alloc, history, &[], kept),
     }
 }
 

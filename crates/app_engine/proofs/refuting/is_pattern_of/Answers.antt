@@ -4,7 +4,8 @@ use Rattle.json_histories.specs.declared.any_history.AnyHistory.{AnyHistory}
 use Rattle.app_findings.specs.Answers.{IsPatternOf}
 use Rattle.app_engine.proofs.refuting.is_pattern_of.Goals as goal
 
-pub returns-in-Memory-clause-exact : goal.returns-in-Memory-clause-exact
-returns-in-Memory-clause-exact c =
+pub returns-in-Some-clause-exact : goal.returns-in-Some-clause-exact
+returns-in-Some-clause-exact c =
+    let same = rw c.in-Some.is at c.as_memory.ensures.memory in
     subst (λ (h : AnyHistory). IfOk c.check_pattern.result (λ yes. IsTrue yes ↔ IsPatternOf h c.args.criterion c.args.pattern.now))
-    (sym c.in-Memory.is) c.check_pattern.ensures.exact
+    (sym same) c.check_pattern.ensures.exact

@@ -5,7 +5,8 @@ use Rattle.app_orders.specs.declared.length.Length.TheVariants.{Limited}
 use Rattle.app_explanations.specs.ListTexts.{IsListInWords}
 use Rattle.app_explanations.proofs.fault_lists.words_in_limited.Goals as goal
 
-pub returns-in-Memory : goal.returns-in-Memory
-returns-in-Memory g c =
-    subst (λ (x : AnyHistory). IfOk c.words_on_memory.result (λ text. IsListInWords Limited c.args.most x (string_bytes text))) (sym c.in-Memory.is)
+pub returns-in-Some : goal.returns-in-Some
+returns-in-Some g c =
+    let same = rw c.in-Some.is at c.as_memory.ensures.memory in
+    subst (λ (x : AnyHistory). IfOk c.words_on_memory.result (λ text. IsListInWords Limited c.args.most x (string_bytes text))) (sym same)
     c.words_on_memory.ensures
