@@ -2,6 +2,7 @@ pub mod SaidLaws
 pub mod FailLaws
 pub mod EndLaws
 pub mod PageLaws
+pub mod NamedFiles
 pub mod AskedLaws
 pub mod FileLaws
 pub mod FewLaws

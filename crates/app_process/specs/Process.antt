@@ -94,11 +94,20 @@ EndEach words terminals several (name ∷ names) before after said_before said_a
     × EndsFile words terminals (label_of several name) before between said_before said one
     × EndEach words terminals several names between after said said_after (worse worst one) status
 
+-- whether there are several files
+abbrev pub are_several : List Text → Bool
+are_several (first ∷ second ∷ further) = true
+are_several _ = false
+
+-- whether the files that some words name are several
+abbrev pub NameSeveral : List Text → Bool → Type 0
+NameSeveral words several = (files : List Text) → AreFiles false words files → several ≡ are_several files
+
 -- the files that some words name
 abbrev pub EndAll : List Text → Terminals → List Text → Known → Known → Known → Known → ℕ → Type 0
 EndAll words terminals further before after said_before said_after status =
-    (files : List Text) × (several : Bool) × AreFiles false further files
-    × EndEach words terminals several files before after said_before said_after 0 status
+    (files : List Text) × AreFiles false further files
+    × EndEach words terminals (are_several files) files before after said_before said_after 0 status
 
 -- an answer that goes to a file or is a page is of one input
 abbrev pub IsOfOne : Asked → Type 0
@@ -109,7 +118,7 @@ abbrev pub EndsFiles : List Text → Terminals → List Text → Known → Known
 EndsFiles words terminals further before after said_before said_after status =
     EndAll words terminals further before after said_before said_after status
     ⊎ (EndsMisuse Unseen words before after said_before said_after status
-    ⊎ ((sight : Sight) × (asked : Asked) × IsCommandLine sight asked words × IsOfOne asked
+    ⊎ ((sight : Sight) × (asked : Asked) × IsCommandLine sight asked words × IsOfOne asked × NameSeveral further true
     × (status ≡ 2) × (after ≡ before) × SaysSome said_before said_after))
 
 -- words that name no file
@@ -122,8 +131,9 @@ abbrev pub IsAfterCommand : List Text → List Text → Type 0
 IsAfterCommand (program ∷ word ∷ rest) further = further ≡ rest
 IsAfterCommand _ further = ⊥
 
--- one run of the process: on the files that its words name, or on what the input's reader has
+-- one run of the process: on what the input's reader has, where its words name no file, and else on the files that they name
 abbrev pub EndsRun : List Text → Terminals → Known → Known → Known → Known → Known → ℕ → Type 0
 EndsRun words terminals reader before after said_before said_after status =
     (NamesNoFile words × EndsWords words terminals reader before after said_before said_after status)
-    ⊎ ((further : List Text) × IsAfterCommand words further × EndsFiles words terminals further before after said_before said_after status)
+    ⊎ ((¬ NamesNoFile words) × (further : List Text) × IsAfterCommand words further
+    × EndsFiles words terminals further before after said_before said_after status)

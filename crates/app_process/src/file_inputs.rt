@@ -4,7 +4,7 @@ ghost use Rattle.std.specs.Prelude.{◌≡◌, map, string_bytes, true};
 ghost use Rattle.std.specs.Io.KnownBytes.{prepend_known};
 ghost use Rattle.std.specs.Option.{option_copied};
 ghost use Rattle.app_command_line.specs.CommandLine.{AsksNothing};
-ghost use Rattle.app_process.specs.Process.{EndAll, EndsFile, EndsFiles, EndsInputOf, EndsMisuse, IsOfOne, label_of};
+ghost use Rattle.app_process.specs.Process.{EndAll, EndsFile, EndsFiles, EndsInputOf, EndsMisuse, IsOfOne, NameSeveral, label_of};
 ghost use Rattle.app_process.specs.Saying.{SaysSome};
 ghost use Rattle.app_process.specs.Statuses.{rank, worse};
 ghost use Rattle.app_process.specs.Steps.Choices.{AreChoices};
@@ -96,7 +96,8 @@ fn status_of_each<
 where
     P::Reader: Send,
     P::File: Send,
-    requires { AreChoices (map string_bytes all.now.words.now) choices.now }
+    requires choices { AreChoices (map string_bytes all.now.words.now) choices.now }
+    requires several { NameSeveral (map string_bytes further.now) all.now.is_many }
     ensures { EndAll (map string_bytes all.now.words.now) all.now.terminals (map string_bytes further.now)
         (W.contents writer) (W.contents result.0) (E.said errors) (E.said result.1) result.2 }
 {
@@ -134,9 +135,15 @@ fn file_named(name: &str) -> Option<&str> {
 }
 
 // Whether words name more than one file.
-fn has_several(further: &[String]) -> bool {
+#[tactic(auto, using(crate::proofs::NamedFiles::names_none))]
+fn has_several(further: &[String]) -> bool
+    ensures { NameSeveral (map string_bytes further.now) result }
+{
     match next_file(further) {
-        Some((_, later)) => next_file(later).is_some(),
+        Some((_, later)) => match next_file(later) {
+            Some(_) => true,
+            None => false,
+        },
         None => false,
     }
 }
