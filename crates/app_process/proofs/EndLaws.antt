@@ -23,6 +23,9 @@ use Rattle.app_process.specs.Endings.{EndsLines, EndsLog, EndsOrder, IsLateRemar
 use Rattle.app_process.specs.Failing.{Refuses, Tells, form_for, refusal_for}
 use Rattle.app_process.specs.Saying.{SaysSome}
 use Rattle.app_process.specs.Statuses.{status_after, wants_counts}
+use Rattle.app_process.specs.declared.noticing.Noticed.{Noticed}
+use Rattle.app_process.specs.Steps.Noticing.{HasNoticed, SaysNoticed, nothing}
+use Rattle.app_process.proofs.NoticingLaws.{says_remarks}
 use Rattle.app_process.proofs.SaidLaws as laws
 
 -- nothing is said of counts that are not wanted
@@ -61,11 +64,17 @@ module _ (label : Option (List ℕ)) (at_terminal : Bool) where
       })
 
 module _ (label : Option (List ℕ)) where
-  pub answers_lines : (judging : LineJudging) (reader before after said_before said_after : Option (List ℕ)) (status : ℕ) (outcome : Outcome)
-      → AllAreAnswered (IsLineAnswer judging) reader before after outcome → status ≡ status_of_outcome outcome → SaysSome said_before said_after
+  pub answers_lines : (judging : LineJudging) (inner reader before after said_before said_after : Option (List ℕ)) (status : ℕ) (outcome : Outcome)
+      (start noticed : Noticed) → AllAreAnswered (IsLineAnswer judging) reader before after outcome → status ≡ status_of_outcome outcome
+      → start ≡ nothing judging.blank → inner ≡ reader → HasNoticed start inner noticed → SaysNoticed label noticed said_before said_after
       → EndsLines label judging reader before after said_before said_after status
-  answers_lines judging reader before after said_before said_after status outcome answered is_status said =
-      inl (record { outcome = outcome; answered = answered; is_status = is_status; said = said })
+  answers_lines judging inner reader before after said_before said_after status outcome start noticed answered is_status is_start is_reader whole said =
+      inl (record {
+        outcome = outcome;
+        answered = answered;
+        is_status = is_status;
+        said = says_remarks label judging.blank inner reader said_before said_after start noticed is_start is_reader whole said;
+      })
 
   pub fails_lines : (judging : LineJudging) (reader before after said_before said_after : Option (List ℕ)) (status : ℕ) (error : RunError)
       → (error ≢ failures.WriteFault → FirstAreAnswered (IsLineAnswer judging) reader before after)

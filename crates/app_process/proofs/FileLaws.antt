@@ -10,7 +10,7 @@ use Rattle.app_orders.specs.declared.manner.Asked.{Asked}
 use Rattle.app_command_line.specs.declared.sight.Sight.{Sight}
 use Rattle.app_command_line.specs.declared.sight.Sight.TheVariants.{Unseen}
 use Rattle.app_process.specs.declared.terminals.Terminals.{Terminals}
-use Rattle.app_process.specs.Process.{EndAll, EndEach, EndsAsked, EndsFile, EndsFiles, EndsInputOf, EndsMisuse, IsKnownOf, IsOfOne, NameSeveral, label_of}
+use Rattle.app_process.specs.Process.{EndAll, EndEach, EndsAsked, EndsFile, EndsFiles, EndsInputOf, EndsMisuse, IsKnownOf, IsOfOne, NameSeveral, SaysSeveral, label_of}
 use Rattle.app_process.specs.Saying.{SaysSome}
 use Rattle.app_process.specs.Statuses.{worse}
 
@@ -153,7 +153,7 @@ module _ (words : List Text) (terminals : Terminals) (further : List Text) (befo
 
 pub several_ends : (words : List Text) (terminals : Terminals) (further : List Text) (output said_before said_after : Option (List ℕ)) (status : ℕ)
     (sight : Sight) (asked : Asked) (several : Bool) → IsCommandLine sight asked words → IsOfOne asked → NameSeveral further several → several ≡ true
-    → status ≡ 2 → SaysSome said_before said_after → EndsFiles words terminals further output output said_before said_after status
+    → status ≡ 2 → SaysSeveral said_before said_after → EndsFiles words terminals further output output said_before said_after status
 several_ends words terminals further output said_before said_after status sight asked several is_line of_one is_several yes is_status said =
     inr (inr (sight, asked, is_line, of_one, subst (NameSeveral further) yes is_several, is_status, refl, said))
 

@@ -1,5 +1,6 @@
 pub mod SaidLaws
 pub mod FailLaws
+pub mod NoticingLaws
 pub mod EndLaws
 pub mod PageLaws
 pub mod NamedFiles

@@ -1,6 +1,7 @@
 -- What one run of the process does: by its words, what is known of its input, and what is known of its output and of standard error before
 -- and after it; and its exit status. Text is bytes.
-use Rattle.std.specs.Prelude.{◌≡◌, ◌≢◌, ◌⊎◌, ⊤, ℕ, List, [], ◌∷◌, Bool, true, false, Option, Some, None, IfSome}
+use Rattle.std.specs.Prelude.{◌≡◌, ◌≢◌, ◌⊎◌, ⊤, ℕ, List, [], ◌∷◌, Bool, true, false, Option, Some, None, IfSome, codes}
+use Rattle.std.specs.Io.KnownBytes.{Appends}
 use Rattle.clap.specs.Words.{Text, fault_of}
 use Rattle.app_command_line.specs.CommandLine.{AsksNothing, IsCommandLine, IsUsageFor, command_line}
 use Rattle.app_orders.specs.declared.coloring.Coloring.{Coloring}
@@ -9,6 +10,7 @@ use Rattle.app_orders.specs.declared.detail.Detail.{Detail}
 use Rattle.app_orders.specs.declared.manner.Asked.{Asked}
 use Rattle.app_orders.specs.declared.order.Task.TheVariants.{OfPage}
 use Rattle.app_orders.specs.declared.page.Page.{Page}
+use Rattle.app_command_line.specs.Misuses.{fault_text}
 use Rattle.app_command_line.specs.Options.{AreFiles}
 use Rattle.app_command_line.specs.declared.command.Usage.{Usage}
 use Rattle.app_command_line.specs.declared.sight.Sight.{Sight}
@@ -80,7 +82,7 @@ module _ (words : List Text) (terminals : Terminals) (label : Option (List ℕ))
   abbrev pub EndsFile : Known → Known → Known → Known → ℕ → Type 0
   EndsFile before after said_before said_after status = (reader : Known) × EndsInputOf reader before after said_before said_after status
 
--- the name of a file stands before its lines where there are several
+-- the name of a file comes before its lines where there are several
 abbrev pub label_of : Bool → Text → Option (List ℕ)
 label_of false name = None
 label_of true name = Some name
@@ -109,6 +111,14 @@ EndAll words terminals further before after said_before said_after status =
     (files : List Text) × AreFiles false further files
     × EndEach words terminals (are_several files) files before after said_before said_after 0 status
 
+-- what is said where one answer is wanted of several files, where memory suffices
+abbrev pub several_text : List ℕ
+several_text =
+    fault_text (codes "'-o' and '--html' take one FILE: each file has an answer of its own") (codes "explain [OPTIONS] <FILE>")
+
+abbrev pub SaysSeveral : Known → Known → Type 0
+SaysSeveral before after = (after ≡ before) ⊎ Appends before after several_text
+
 -- an answer that goes to a file or is a page is of one input
 abbrev pub IsOfOne : Asked → Type 0
 IsOfOne asked = (asked.manner.to_file ≡ true) ⊎ ((page : Page) × (detail : Detail) × (asked.task ≡ OfPage page detail))
@@ -119,7 +129,7 @@ EndsFiles words terminals further before after said_before said_after status =
     EndAll words terminals further before after said_before said_after status
     ⊎ (EndsMisuse Unseen words before after said_before said_after status
     ⊎ ((sight : Sight) × (asked : Asked) × IsCommandLine sight asked words × IsOfOne asked × NameSeveral further true
-    × (status ≡ 2) × (after ≡ before) × SaysSome said_before said_after))
+    × (status ≡ 2) × (after ≡ before) × SaysSeveral said_before said_after))
 
 -- words that name no file
 abbrev pub NamesNoFile : List Text → Type 0

@@ -4,8 +4,8 @@ ghost use Rattle.std.specs.Prelude.{◌≡◌, map, string_bytes, true};
 ghost use Rattle.std.specs.Io.KnownBytes.{prepend_known};
 ghost use Rattle.std.specs.Option.{option_copied};
 ghost use Rattle.app_command_line.specs.CommandLine.{AsksNothing};
-ghost use Rattle.app_process.specs.Process.{EndAll, EndsFile, EndsFiles, EndsInputOf, EndsMisuse, IsOfOne, NameSeveral, label_of};
-ghost use Rattle.app_process.specs.Saying.{SaysSome};
+ghost use Rattle.app_process.specs.Process.{EndAll, EndsFile, EndsFiles, EndsInputOf, EndsMisuse, IsOfOne, NameSeveral, SaysSeveral};
+ghost use Rattle.app_process.specs.Process.{label_of};
 ghost use Rattle.app_process.specs.Statuses.{rank, worse};
 ghost use Rattle.app_process.specs.Steps.Choices.{AreChoices};
 
@@ -118,7 +118,7 @@ where
     unreachable!()
 }
 
-// The name that stands before each line, where there are several files.
+// The name that comes before each line, where there are several files.
 fn label_for<'a>(is_many: bool, name: &'a str) -> Option<&'a str>
     ensures { option_copied result ≡ label_of is_many name.now }
 {
@@ -177,9 +177,8 @@ fn status_of_usage<P: Files + AllocGlobal + Eprint + Wait, W: Write, E: Say>(
 }
 
 // Says that an answer of this form is of one file.
-#[tactic(auto, using(crate::proofs::SaidLaws::says_no_more, crate::proofs::SaidLaws::says_some))]
 fn say_several<P: AllocGlobal, E: Say>(rt: &P, errors: &mut E)
-    ensures { SaysSome (E.said errors.old) (E.said errors.new) }
+    ensures { SaysSeveral (E.said errors.old) (E.said errors.new) }
 {
     let fault = "'-o' and '--html' take one FILE: each file has an answer of its own";
     if let Ok(text) = usage_fault(rt.alloc(), fault, "explain [OPTIONS] <FILE>") {
