@@ -2,3 +2,4 @@
 pub mod Choices
 pub mod Readings
 pub mod Noticing
+pub mod LineOutcomes

@@ -5,6 +5,7 @@ ghost use Rattle.std.specs.Option.{option_copied};
 ghost use Rattle.json_lines.specs.Lines.{AllAreAnswered, FirstAreAnswered};
 ghost use Rattle.app_engine.specs.LineAnswers.{IsLineAnswer};
 ghost use Rattle.app_process.specs.Endings.{EndsLines};
+ghost use Rattle.app_process.specs.Steps.LineOutcomes.{SaysOutcome};
 ghost use Rattle.app_process.specs.Steps.Noticing.{HasNoticed, SaysNoticed};
 
 use crate::noticing::Noticing;
@@ -21,7 +22,6 @@ use std::thread::Threads;
 /// Judges the history in each line of an input, and returns the writer and the exit status.
 ///
 /// Standard error gets one remark for the first blank line that is refused, and one for the first line that breaks off inside a JSON text.
-#[tactic(auto, using(crate::proofs::EndLaws::answers_lines, crate::proofs::EndLaws::fails_lines))]
 pub(crate) fn judge_lines_of_process<
     P: Threads + Wait + Sync + AllocGlobal + Eprint,
     R: Read + Drop + Send,
@@ -33,13 +33,7 @@ pub(crate) fn judge_lines_of_process<
 {
     let reader = Noticing::of(judging.blank, reader);
     let (reader, writer, outcome) = judge_noticed(place.rt, reader, writer, judging);
-    let status = match outcome {
-        Ok(outcome) => {
-            say_remarks(place, errors, &reader);
-            outcome.status()
-        }
-        Err(error) => report(place, errors, &error),
-    };
+    let status = say_outcome(place, errors, &reader, &outcome);
     (writer, status)
 }
 
@@ -63,6 +57,24 @@ fn judge_noticed<
     ensures noticed { OnOk result.2 (HasNoticed reader.noticed (R.remaining reader.reader) result.0.noticed) }
 {
     judge_lines(rt, reader, writer, judging)
+}
+
+// Says what was noticed of the lines, or why they have no answer, and returns the exit status.
+fn say_outcome<P: AllocGlobal + Eprint + Wait, R, E: Say>(
+    place: &Place<'_, P>,
+    errors: &mut E,
+    reader: &Noticing<R>,
+    outcome: &Result<Outcome, RunError>,
+) -> u8
+    ensures { SaysOutcome (option_copied place.now.label) reader.now.noticed outcome.now (E.said errors.old) (E.said errors.new) result }
+{
+    match outcome {
+        Ok(outcome) => {
+            say_remarks(place, errors, reader);
+            outcome.status()
+        }
+        Err(error) => report(place, errors, error),
+    }
 }
 
 // Says what was noticed of the lines, where memory suffices.
