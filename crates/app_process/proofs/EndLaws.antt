@@ -20,7 +20,7 @@ use Rattle.app_logs.specs.declared.following.Followed.{Followed}
 use Rattle.app_logs.specs.declared.late_writes.LateWrite.{LateWrite}
 use Rattle.app_logs.specs.LogAnswers.{FollowsLog, IsLogError, RefusesLate, WritesFirstCuts, every_in, expected_in}
 use Rattle.app_process.specs.Endings.{EndsLines, EndsLog, EndsOrder, IsLateRemark, SaysCounts, SaysRemarks, TellsOfLog, cut_remark, torn_remark}
-use Rattle.app_process.specs.Failing.{Refuses, Tells, form_for, refusal_for}
+use Rattle.app_process.specs.Failing.{Refuses, form_for, refusal_for}
 use Rattle.app_process.specs.Saying.{SaysSome}
 use Rattle.app_process.specs.Statuses.{status_after, wants_counts}
 use Rattle.app_process.specs.declared.noticing.Noticed.{Noticed}

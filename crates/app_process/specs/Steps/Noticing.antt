@@ -1,5 +1,5 @@
 -- What is noticed of lines, byte by byte.
-use Rattle.std.specs.Prelude.{◌≡◌, ◌⊎◌, ◌==◌, ◌++◌, ℕ, List, [], Bool, true, false, Option, Some, None, fold, if◌then◌else◌}
+use Rattle.std.specs.Prelude.{◌≡◌, ◌⊎◌, ◌==◌, ◌++◌, ℕ, List, Bool, true, false, Option, Some, None, fold, if◌then◌else◌}
 use Rattle.std.specs.Io.KnownBytes.{Appends, Consumes}
 use Rattle.app_orders.specs.declared.line_judging.BlankLines.{BlankLines}
 use Rattle.app_process.specs.declared.noticing.LineSoFar.{LineSoFar}
