@@ -119,7 +119,7 @@ impl Misuse {
 }
 
 /// What is wrong with the options of some words, if anything is: the first misuse that they have. O(n) for n words.
-#[tactic(auto, using(crate::proofs::Misuses::in_logs, crate::proofs::Misuses::in_lines, crate::proofs::Misuses::in_certificates, crate::proofs::Misuses::in_forms))]
+#[tactic(auto, using(crate::proofs::Misuses::in_forms))]
 pub fn misuse_in<S: AsStr>(words: &[S]) -> Option<Misuse>
     ensures { result ≡ first_of (misuses (map S.text words.now)) }
 {

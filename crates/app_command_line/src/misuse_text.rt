@@ -64,7 +64,8 @@ fn text_of_coloring_or_store<S: AsStr>(alloc: Global, words: &[S]) -> Result<Str
 // The value of `--expect`, where it is no list of criteria.
 #[tactic(auto, using(crate::proofs::Misuses::no_list, crate::proofs::Misuses::is_list, crate::proofs::Misuses::lacks_list))]
 fn bad_list<'a, S: AsStr>(words: &'a [S]) -> Option<&'a str>
-    ensures { MatchOption result ((list : Text) → ¬ IsNoList (map S.text words.now) list) (λ list. IsNoList (map S.text words.now) list.now) }
+    ensures { MatchOption result ((list : Text) → ¬ IsNoList (map S.text words.now) list)
+        (λ list. IsNoList (map S.text words.now) list.now) }
 {
     match value_of(words, "--expect", "--expect=") {
         Some(list) => match expected_in(list) {
@@ -78,7 +79,8 @@ fn bad_list<'a, S: AsStr>(words: &'a [S]) -> Option<&'a str>
 // The value of `--color`, where it names no colouring.
 #[tactic(auto, using(crate::proofs::Misuses::no_color, crate::proofs::Misuses::is_color, crate::proofs::Misuses::lacks_color))]
 fn bad_coloring<'a, S: AsStr>(words: &'a [S]) -> Option<&'a str>
-    ensures { MatchOption result ((word : Text) → ¬ IsNoColor (map S.text words.now) word) (λ word. IsNoColor (map S.text words.now) word.now) }
+    ensures { MatchOption result ((word : Text) → ¬ IsNoColor (map S.text words.now) word)
+        (λ word. IsNoColor (map S.text words.now) word.now) }
 {
     match value_of(words, "--color", "--color=") {
         Some(word) => match coloring_in(word) {

@@ -1,7 +1,8 @@
 //! What is noticed of lines each of which is to hold a history.
 
 ghost use Rattle.std.specs.Prelude.{◌≡◌, IfOk, fold, string_bytes};
-ghost use Rattle.app_process.specs.LineRemarks.{blank_remark, broken_remark, is_broken, no_bytes, refuses, seen, seen_in_text, seen_outside};
+ghost use Rattle.app_process.specs.LineRemarks.{blank_remark, broken_remark, is_broken, no_bytes, refuses, seen, seen_in_text};
+ghost use Rattle.app_process.specs.LineRemarks.{seen_outside};
 ghost use Rattle.app_process.specs.Steps.Noticing.{all_ended, line_ended, nothing, noticed_byte, or_this, remarks_in};
 
 use app_orders::BlankLines;
