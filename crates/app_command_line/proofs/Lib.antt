@@ -5,3 +5,4 @@ pub mod SettingWords
 pub mod Saying
 pub mod Additions
 pub mod Files
+pub mod Misuses

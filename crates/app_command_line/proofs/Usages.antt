@@ -8,6 +8,7 @@ use Rattle.clap.specs.declared.error.kind.ErrorKind.TheVariants.{DisplayHelp, Di
 use Rattle.app_command_line.specs.declared.command.Usage.{Usage}
 use Rattle.app_command_line.specs.declared.command.Usage.TheVariants.{Fault, Help, Memory}
 use Rattle.app_command_line.specs.CommandLine.{IsFault, IsTopicUsage, IsUsageBy, IsUsageFor, IsUsageOf}
+use Rattle.app_command_line.specs.Misuses.{IsMisuse}
 use Rattle.app_command_line.specs.Shown.{AsksForTopic, IsHelpFor, IsTopicText, version_text}
 
 pub usage_among : (kinds : Kinds) (words : List Text) (e : Error) (u : Usage) → HasKind kinds e → IsUsageOf (kind_of e) words u → IsUsageBy kinds words u
@@ -20,9 +21,9 @@ usage_among kinds words e (Fault text) (inr among) fault = inr (kind_of e, among
 usage_among kinds words e Memory has any = tt
 
 -- where `clap` finds no fault, the fault that the program finds is said
-pub said_without_fault : (kinds : Kinds) (words : List Text) (u : Usage) → kinds ≡ [] → IsFault u → IsUsageBy kinds words u
+pub said_without_fault : (kinds : Kinds) (words : List Text) (u : Usage) → kinds ≡ [] → IsMisuse words u → IsUsageBy kinds words u
 said_without_fault kinds words (Help text) none fault = absurd fault
-said_without_fault kinds words (Fault text) none fault = inl none
+said_without_fault kinds words (Fault text) none fault = inl (none, fault)
 said_without_fault kinds words Memory none fault = tt
 
 -- a text that is shown where there is memory for it

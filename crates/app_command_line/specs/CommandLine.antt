@@ -1,5 +1,6 @@
 -- The command lines that the program takes, and what is said of other words. Text is bytes, and the first word is the
--- program's name. What is wrong with other words is `clap`'s to say: `fault_of` tells which kinds of fault it finds.
+-- program's name. Where `clap` finds a kind of fault in other words (`fault_of`), it says what is wrong with them. Else they are a misuse,
+-- and the program says which.
 use Rattle.std.specs.Prelude.{◌≡◌, ◌≢◌, ◌⊎◌, ℕ, List, [], ◌∷◌, ◌-◌, Some, true, codes, fold, string_bytes}
 use Rattle.clap.specs.Lexer.{usize_max}
 use Rattle.clap.specs.Words.{App, IsAmong, Kinds, Rule, Text, new_app, new_rule, with_rule, with_subcommand}
@@ -18,6 +19,7 @@ use Rattle.app_orders.specs.declared.manner.TheConstants.{MAX_LEAST_READS}
 use Rattle.app_command_line.specs.declared.command.Usage.{Usage}
 use Rattle.app_command_line.specs.declared.command.Usage.TheVariants.{Fault, Help, Memory}
 use Rattle.app_command_line.specs.declared.sight.Sight.{Sight}
+use Rattle.app_command_line.specs.Misuses.{IsMisuseText}
 use Rattle.app_command_line.specs.Shown.{AsksForTopic, IsHelpFor, IsTopicText, version_text}
 
 -- a command line asks for this on an input that looks so: it is the program's name, the word of a command, and the words after it
@@ -132,7 +134,8 @@ IsUsageOf kind words Memory = Unit {0}
 abbrev pub IsUsageBy : Kinds → List Text → Usage → Type 0
 IsUsageBy kinds words (Help text) =
     (IsAmong DisplayHelp kinds × IsHelpFor words (string_bytes text)) ⊎ (IsAmong DisplayVersion kinds × (string_bytes text ≡ version_text))
-IsUsageBy kinds words (Fault text) = (kinds ≡ []) ⊎ ((kind : ErrorKind) × IsAmong kind kinds × (¬ IsRequest kind))
+IsUsageBy kinds words (Fault text) =
+    ((kinds ≡ []) × IsMisuseText words (string_bytes text)) ⊎ ((kind : ErrorKind) × IsAmong kind kinds × (¬ IsRequest kind))
 IsUsageBy kinds words Memory = Unit {0}
 
 -- the text of the topic that words ask for, or in its place that memory ran out

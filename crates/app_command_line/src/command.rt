@@ -3,9 +3,10 @@ ghost use Rattle.std.specs.Prelude.{◌≡◌, [], IfErr, IfOk, MatchOption, Mat
 ghost use Rattle.clap.specs.Words.{HasKind, fault_of, kind_of};
 ghost use Rattle.app_command_line.specs.CommandLine.{AsksNothing, IsCommandLine, IsFault, IsUsageBy, IsUsageFor, IsUsageOf};
 ghost use Rattle.app_command_line.specs.CommandLine.{IsFaultWith, command_line};
+ghost use Rattle.app_command_line.specs.Misuses.{IsMisuse};
 ghost use Rattle.app_command_line.specs.Shown.{IsHelpFor, version_text};
 
-use crate::misuse::text_of_misuse;
+use crate::misuse_text::text_of_misuse;
 use crate::options::asked_of;
 use crate::program::program;
 use crate::shown::{help_for, version_of};
@@ -101,7 +102,7 @@ fn shown(text: Result<String, AllocError>) -> Usage
 
 // What the program says of words that `clap` takes but that give no task.
 fn fault_of_misuse<S: AsStr>(alloc: Global, words: &[S]) -> Usage
-    ensures { IsFault result }
+    ensures { IsMisuse (map S.text words.now) result }
 {
     match text_of_misuse(alloc, words) {
         Ok(text) => Usage::Fault(text),

@@ -17,6 +17,7 @@ use Rattle.app_process.specs.Dressing.{is_plain, plainly}
 use Rattle.app_process.specs.Endings.{EndsInput, EndsLines, EndsOrder, EndsTask}
 use Rattle.app_process.specs.Process.{EndsAsked, EndsFiles, EndsRun, EndsWords, GoesToFile, GoesToOutput, IsAfterCommand, IsPainted, NamesNoFile}
 use Rattle.app_process.specs.Usages.{EndsUsage}
+use Rattle.app_process.proofs.NamedFiles.{NamesFirst, names_first}
 
 module _ (label : Option (List ℕ)) (at_terminal : Bool) where
   pub as_whole : (order : Order) (detail : Detail) (manner : Manner) (reader before after said_before said_after : Option (List ℕ)) (status : ℕ)
@@ -85,10 +86,11 @@ module _ (words : List Text) (terminals : Terminals) where
       → EndsRun words terminals reader before after said_before said_after status
   run_on_input reader before after said_before said_after status none ends = inl (none, ends)
 
-  pub run_on_files : (further : List Text) (reader before after said_before said_after : Option (List ℕ)) (status : ℕ) → IsAfterCommand words further
+  pub run_on_files : (further : List Text) (reader before after said_before said_after : Option (List ℕ)) (status : ℕ)
+      → ¬ NamesNoFile words → IsAfterCommand words further
       → EndsFiles words terminals further before after said_before said_after status
       → EndsRun words terminals reader before after said_before said_after status
-  run_on_files further reader before after said_before said_after status after_command ends = inr (further, after_command, ends)
+  run_on_files further reader before after said_before said_after status some after_command ends = inr (some, further, after_command, ends)
 
 -- the words after that of a command, by some words and how each is a text
 module _ {T : Type 0} (text : T → Text) where
@@ -96,6 +98,14 @@ module _ {T : Type 0} (text : T → Text) where
   after_command [] many = absurd (omega arith)
   after_command (program ∷ []) many = absurd (omega arith)
   after_command (program ∷ word ∷ further) many = refl
+
+  pub names_file : (words further : List T) (rest : List Text) (name : Text) → 2 ≤ length words → further ≡ drop 2 words
+      → NamesFirst (map text further) name rest → ¬ NamesNoFile (map text words)
+  names_file [] further rest name many is_further next = absurd (omega arith)
+  names_file (program ∷ []) further rest name many is_further next = absurd (omega arith)
+  names_file (program ∷ word ∷ later) further rest name many is_further next =
+      let P : List T → Type 0 = λ f. NamesFirst (map text f) name rest in
+      names_first (map text later) rest name (subst P is_further next)
 
   pub no_file : (words : List T) → 2 ≤ length words → AreFiles false (map text (drop 2 words)) [] → NamesNoFile (map text words)
   no_file [] many none = tt

@@ -1,5 +1,5 @@
 -- How a run of one task ends, by what its parts promise.
-use Rattle.std.specs.Prelude.{◌≡◌, ◌≢◌, ◌⊎◌, ℕ, List, [], Bool, true, false, Option, Some, None, refl}
+use Rattle.std.specs.Prelude.{◌≡◌, ◌≢◌, ◌⊎◌, ℕ, List, [], Bool, true, false, Option, Some, None, Result, Ok, Err, IfOk, IfErr, OnOk, refl}
 use Rattle.std.specs.Io.KnownBytes.{Appends}
 use Rattle.std.proofs.Common.{inl, inr, ap, sym, subst, ◌∙◌}
 use Rattle.app_orders.specs.declared.detail.Detail.{Detail}
@@ -20,9 +20,13 @@ use Rattle.app_logs.specs.declared.following.Followed.{Followed}
 use Rattle.app_logs.specs.declared.late_writes.LateWrite.{LateWrite}
 use Rattle.app_logs.specs.LogAnswers.{FollowsLog, IsLogError, RefusesLate, WritesFirstCuts, every_in, expected_in}
 use Rattle.app_process.specs.Endings.{EndsLines, EndsLog, EndsOrder, IsLateRemark, SaysCounts, SaysRemarks, TellsOfLog, cut_remark, torn_remark}
-use Rattle.app_process.specs.Failing.{Refuses, Tells, form_for, refusal_for}
+use Rattle.app_process.specs.Failing.{Refuses, form_for, refusal_for}
 use Rattle.app_process.specs.Saying.{SaysSome}
 use Rattle.app_process.specs.Statuses.{status_after, wants_counts}
+use Rattle.app_process.specs.declared.noticing.Noticed.{Noticed}
+use Rattle.app_process.specs.Steps.LineOutcomes.{SaysOutcome}
+use Rattle.app_process.specs.Steps.Noticing.{HasNoticed, nothing}
+use Rattle.app_process.proofs.NoticingLaws.{says_remarks}
 use Rattle.app_process.proofs.SaidLaws as laws
 
 -- nothing is said of counts that are not wanted
@@ -61,18 +65,24 @@ module _ (label : Option (List ℕ)) (at_terminal : Bool) where
       })
 
 module _ (label : Option (List ℕ)) where
-  pub answers_lines : (judging : LineJudging) (reader before after said_before said_after : Option (List ℕ)) (status : ℕ) (outcome : Outcome)
-      → AllAreAnswered (IsLineAnswer judging) reader before after outcome → status ≡ status_of_outcome outcome → SaysSome said_before said_after
-      → EndsLines label judging reader before after said_before said_after status
-  answers_lines judging reader before after said_before said_after status outcome answered is_status said =
-      inl (record { outcome = outcome; answered = answered; is_status = is_status; said = said })
-
-  pub fails_lines : (judging : LineJudging) (reader before after said_before said_after : Option (List ℕ)) (status : ℕ) (error : RunError)
-      → (error ≢ failures.WriteFault → FirstAreAnswered (IsLineAnswer judging) reader before after)
-      → (error ≡ failures.Memory) ⊎ ((error ≡ failures.ReadFault) ⊎ (error ≡ failures.WriteFault))
-      → Tells label error said_before said_after status → EndsLines label judging reader before after said_before said_after status
-  fails_lines judging reader before after said_before said_after status error first is_fault tells =
-      inr (record { error = error; is_fault = is_fault; first = first; tells = tells })
+  -- of lines that were judged, by what is known of the reader and of what was noticed
+  pub ends_lines : (judging : LineJudging) (inner reader before after said_before said_after : Option (List ℕ)) (status : ℕ)
+      (outcome : Result Outcome RunError) (start noticed : Noticed) → IfOk outcome (AllAreAnswered (IsLineAnswer judging) inner before after)
+      → IfErr outcome (λ error. error ≢ failures.WriteFault → FirstAreAnswered (IsLineAnswer judging) inner before after)
+      → IfErr outcome (λ error. (error ≡ failures.Memory) ⊎ ((error ≡ failures.ReadFault) ⊎ (error ≡ failures.WriteFault)))
+      → OnOk outcome (HasNoticed start inner noticed) → start ≡ nothing judging.blank → inner ≡ reader
+      → SaysOutcome label noticed outcome said_before said_after status → EndsLines label judging reader before after said_before said_after status
+  ends_lines judging inner reader before after said_before said_after status (Ok outcome) start noticed answered first is_fault whole is_start is_reader said =
+      let P : Option (List ℕ) → Type 0 = λ known. AllAreAnswered (IsLineAnswer judging) known before after outcome in
+      inl (record {
+        outcome = outcome;
+        answered = subst P is_reader answered;
+        is_status = said.0;
+        said = says_remarks label judging.blank inner reader said_before said_after start noticed is_start is_reader whole said.1;
+      })
+  ends_lines judging inner reader before after said_before said_after status (Err error) start noticed answered first is_fault whole is_start is_reader said =
+      let P : Option (List ℕ) → Type 0 = λ known. error ≢ failures.WriteFault → FirstAreAnswered (IsLineAnswer judging) known before after in
+      inr (record { error = error; is_fault = is_fault; first = subst P is_reader first; tells = said })
 
 -- what is said of a log, piece by piece
 module _ (label : Option (List ℕ)) where

@@ -34,7 +34,7 @@ use Rattle.app_pages.specs.declared.failure.PageError.TheVariants as page_failur
 use Rattle.app_process.specs.declared.terminals.Terminals.{Terminals}
 use Rattle.app_process.specs.Endings.{EndsPageOf, EndsTask, TellsOfPage}
 use Rattle.app_process.specs.Failing.{Refuses, Tells, refusal_for}
-use Rattle.app_process.specs.Process.{EndEach, EndsAsked, EndsFile, EndsFiles, EndsMisuse, EndsRun, EndsWords}
+use Rattle.app_process.specs.Process.{EndEach, EndsAsked, EndsFile, EndsFiles, EndsMisuse, EndsRun, EndsWords, are_several}
 use Rattle.app_process.specs.Saying.{SaysSome}
 use Rattle.app_process.specs.Statuses.{has_few, rank, status_after, worse}
 use Rattle.app_process.specs.Usages.{EndsUsage}
@@ -187,16 +187,16 @@ few_each words terminals several (name ∷ names) a b c d worst status few (betw
 -- of words that name files
 few_files : (words : List Text) (terminals : Terminals) (further : List Text) (a b c d : Option (List ℕ)) (status : ℕ)
     → EndsFiles words terminals further a b c d status → status ≤ 6
-few_files words terminals further a b c d status (inl (files, several, are_files, each)) =
-    few_each words terminals several files a b c d 0 status (lit≤ tt) each
+few_files words terminals further a b c d status (inl (files, are_files, each)) =
+    few_each words terminals (are_several files) files a b c d 0 status (lit≤ tt) each
 few_files words terminals further a b c d status (inr (inl misuse)) = few_misuse Unseen words a b c d status misuse
-few_files words terminals further a b c d status (inr (inr (sight, asked, is_line, of_one, is_status, same, said))) = by is_status (lit≤ tt)
+few_files words terminals further a b c d status (inr (inr (sight, asked, is_line, of_one, several, is_status, same, said))) = by is_status (lit≤ tt)
 
 -- of any words
 pub few_run : (words : List Text) (terminals : Terminals) (reader a b c d : Option (List ℕ)) (status : ℕ)
     → EndsRun words terminals reader a b c d status → status ≤ 6
 few_run words terminals reader a b c d status (inl (none, ends)) = few_words words terminals reader a b c d status ends
-few_run words terminals reader a b c d status (inr (further, after, ends)) = few_files words terminals further a b c d status ends
+few_run words terminals reader a b c d status (inr (some, further, after, ends)) = few_files words terminals further a b c d status ends
 
 -- of words that ask for nothing
 pub few_of_usage : (usage : Usage) (a b c d : Option (List ℕ)) (status : ℕ) → EndsUsage usage a b c d status → status ≤ 6

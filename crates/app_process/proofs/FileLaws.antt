@@ -1,5 +1,5 @@
 -- How a run over files ends, by what its parts promise.
-use Rattle.std.specs.Prelude.{◌≡◌, ◌++◌, ℕ, List, [], ◌∷◌, Bool, false, Option, None, Some, refl}
+use Rattle.std.specs.Prelude.{◌≡◌, ◌++◌, ℕ, List, [], ◌∷◌, Bool, false, true, Option, None, Some, refl}
 use Rattle.std.specs.Fmt.{option_append}
 use Rattle.std.specs.Io.KnownBytes.{Consumes, prepend_known}
 use Rattle.std.proofs.Common.{inl, inr, ap, sym, subst, ◌∙◌, append-nil, append_assoc}
@@ -10,7 +10,7 @@ use Rattle.app_orders.specs.declared.manner.Asked.{Asked}
 use Rattle.app_command_line.specs.declared.sight.Sight.{Sight}
 use Rattle.app_command_line.specs.declared.sight.Sight.TheVariants.{Unseen}
 use Rattle.app_process.specs.declared.terminals.Terminals.{Terminals}
-use Rattle.app_process.specs.Process.{EndAll, EndEach, EndsAsked, EndsFile, EndsFiles, EndsInputOf, EndsMisuse, IsKnownOf, IsOfOne, label_of}
+use Rattle.app_process.specs.Process.{EndAll, EndEach, EndsAsked, EndsFile, EndsFiles, EndsInputOf, EndsMisuse, IsKnownOf, IsOfOne, NameSeveral, SaysSeveral, label_of}
 use Rattle.app_process.specs.Saying.{SaysSome}
 use Rattle.app_process.specs.Statuses.{worse}
 
@@ -132,12 +132,14 @@ module _ (words : List Text) (terminals : Terminals) (several : Bool) (further :
         λ later are_later. subst (P later) (sym (append_assoc files (name ∷ []) later)) (are (name ∷ later) (next later are_later)),
       )
 
-  pub so_far_all : (rest : List Text) (before after said_before said_after : Option (List ℕ)) (status : ℕ)
+  pub so_far_all : (rest : List Text) (before after said_before said_after : Option (List ℕ)) (status : ℕ) → NameSeveral further several
       → SoFar rest before after said_before said_after status → AreFiles false rest []
       → EndAll words terminals further before after said_before said_after status
-  so_far_all rest before after said_before said_after status (files, each, are) none =
+  so_far_all rest before after said_before said_after status is_several (files, each, are) none =
       let P : List Text → Type 0 = λ all. AreFiles false further all in
-      (files, several, subst P (append-nil files) (are [] none), each)
+      let named : AreFiles false further files = subst P (append-nil files) (are [] none) in
+      let Q : Bool → Type 0 = λ s. EndEach words terminals s files before after said_before said_after 0 status in
+      (files, named, subst Q (is_several files named) each)
 
 -- what all that was done over files comes to
 module _ (words : List Text) (terminals : Terminals) (further : List Text) (before after said_before said_after : Option (List ℕ)) (status : ℕ) where
@@ -150,10 +152,10 @@ module _ (words : List Text) (terminals : Terminals) (further : List Text) (befo
   misuse_ends misuse = inr (inl misuse)
 
 pub several_ends : (words : List Text) (terminals : Terminals) (further : List Text) (output said_before said_after : Option (List ℕ)) (status : ℕ)
-    (sight : Sight) (asked : Asked) → IsCommandLine sight asked words → IsOfOne asked → status ≡ 2 → SaysSome said_before said_after
-    → EndsFiles words terminals further output output said_before said_after status
-several_ends words terminals further output said_before said_after status sight asked is_line of_one is_status said =
-    inr (inr (sight, asked, is_line, of_one, is_status, refl, said))
+    (sight : Sight) (asked : Asked) (several : Bool) → IsCommandLine sight asked words → IsOfOne asked → NameSeveral further several → several ≡ true
+    → status ≡ 2 → SaysSeveral said_before said_after → EndsFiles words terminals further output output said_before said_after status
+several_ends words terminals further output said_before said_after status sight asked several is_line of_one is_several yes is_status said =
+    inr (inr (sight, asked, is_line, of_one, subst (NameSeveral further) yes is_several, is_status, refl, said))
 
 -- the bytes that were read, and those that the reader still has
 pub chain_known : (bytes : List ℕ) (rest : Option (List ℕ)) → option_append (Some bytes) rest ≡ prepend_known bytes rest

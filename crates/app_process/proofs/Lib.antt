@@ -1,7 +1,9 @@
 pub mod SaidLaws
 pub mod FailLaws
+pub mod NoticingLaws
 pub mod EndLaws
 pub mod PageLaws
+pub mod NamedFiles
 pub mod AskedLaws
 pub mod FileLaws
 pub mod FewLaws

@@ -21,7 +21,7 @@ appends_both (Some xs) None c x y first second = absurd first
 appends_both (Some xs) (Some ys) None x y first second = absurd second
 appends_both (Some xs) (Some ys) (Some zs) x y first second = second ∙ (ap (λ l. l ++ y) first ∙ append_assoc xs x y)
 
--- a label, what stands after it, and a line
+-- a label, what comes after it, and a line
 pub said_after : (a b c d : Option (List ℕ)) (x y z : List ℕ) → Appends a b x → Appends b c y → Appends c d z → Appends a d (x ++ (y ++ z))
 said_after a b c d x y z first second third = appends_both a b d x (y ++ z) first (appends_both b c d y z second third)
 

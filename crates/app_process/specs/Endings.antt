@@ -35,7 +35,8 @@ use Rattle.app_pages.specs.declared.failure.PageError.{PageError}
 use Rattle.app_pages.specs.declared.failure.PageError.TheVariants as page_failures
 use Rattle.app_pages.specs.Writing.{FailsToWrite, IsPageOfInput, IsPageOfLog, WritesPage, listing_order}
 use Rattle.app_process.specs.Failing.{LacksMemory, Refuses, Tells, form_for, history_form, refusal_for}
-use Rattle.app_process.specs.Saying.{Known, SaysSome, said_lines}
+use Rattle.app_process.specs.LineRemarks.{SaysLineRemarks}
+use Rattle.app_process.specs.Saying.{Known, said_lines}
 use Rattle.app_process.specs.Statuses.{status_after, wants_counts}
 
 -- what may be said of how much a run asks: nothing where that is not wanted
@@ -64,12 +65,12 @@ module _ (label : Option (List ℕ)) (at_terminal : Bool) where
       ⊎ RefusesOrder order detail reader before after said_before said_after status
 
 module _ (label : Option (List ℕ)) where
-  -- the history in each line of an input was judged, and each line has its answer
+  -- the history in each line of an input was judged, and each line has its answer; beside the answers the remarks on the lines are said
   pub record AnswersLines (judging : LineJudging) (reader before after said_before said_after : Known) (status : ℕ) : Type 0 where
     pub outcome : Outcome
     pub answered : AllAreAnswered (IsLineAnswer judging) reader before after outcome
     pub is_status : status ≡ status_of_outcome outcome
-    pub said : SaysSome said_before said_after
+    pub said : SaysLineRemarks label judging.blank reader said_before said_after
 
   -- it failed: some first lines were answered, but where the writer failed, and why is said
   pub record FailsLines (judging : LineJudging) (reader before after said_before said_after : Known) (status : ℕ) : Type 0 where
@@ -94,7 +95,7 @@ module _ (label : Option (List ℕ)) where
   abbrev pub cut_remark : LogOrder → Outcome → List ℕ
   cut_remark order outcome = if is_some (every_in order) && is_excluded outcome then said_lines label explained_cut else []
 
-  -- where a cut comes between a read and the write that it read: on which lines these stand, if memory suffices to say so
+  -- where a cut comes between a read and the write that it read: on which lines these are, if memory suffices to say so
   abbrev pub IsLateRemark : Option LateWrite → List ℕ → Type 0
   IsLateRemark None text = text ≡ []
   IsLateRemark (Some late) text = (text ≡ []) ⊎ (text ≡ said_lines label
@@ -126,7 +127,7 @@ module _ (label : Option (List ℕ)) where
     pub is_status : status ≡ status_after manner.least_reads reads (status_of_outcome followed.outcome)
     pub said : SaysOfLog order (wants_counts manner) followed said_before said_after
 
-  -- why a log has no answer is told in lines, and this is its status
+  -- why a log has no answer is said in lines, and this is its status
   abbrev pub TellsOfLog : LogError → Known → Known → ℕ → Type 0
   TellsOfLog error before after status =
       ((told : List ℕ) × (status ≡ status_for error) × Appends before after (said_lines label (lines_for error told))) ⊎ LacksMemory label before after status
@@ -153,7 +154,7 @@ module _ (label : Option (List ℕ)) where
     pub said : Appends said_before said_after (torn_remark torn)
 
 module _ (label : Option (List ℕ)) (at_terminal : Bool) where
-  -- why there is no page of a log is told
+  -- why there is no page of a log is said
   abbrev pub TellsOfPage : PageError → Known → Known → ℕ → Type 0
   TellsOfPage (page_failures.Log error) before after status = TellsOfLog label error before after status
   TellsOfPage page_failures.TooLong before after status =

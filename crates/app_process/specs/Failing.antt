@@ -99,7 +99,7 @@ SaysFurther label at_terminal detail refusal before after =
 abbrev pub LacksMemory : Option (List ℕ) → Known → Known → ℕ → Type 0
 LacksMemory label before after status = (status ≡ 4) × Appends before after (said_lines label (codes "no memory"))
 
--- a failure is told in a line, and this is its status
+-- a failure is said in a line, and this is its status
 abbrev pub Tells : Option (List ℕ) → RunError → Known → Known → ℕ → Type 0
 Tells label error before after status =
     ((status ≡ failure_status error) × Appends before after (said_lines label (line_for error))) ⊎ LacksMemory label before after status

@@ -3,6 +3,7 @@ pub mod Saying
 pub mod Dressing
 pub mod Failing
 pub mod Usages
+pub mod LineRemarks
 pub mod Endings
 pub mod Process
 pub mod Steps

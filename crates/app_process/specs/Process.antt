@@ -1,6 +1,7 @@
 -- What one run of the process does: by its words, what is known of its input, and what is known of its output and of standard error before
 -- and after it; and its exit status. Text is bytes.
-use Rattle.std.specs.Prelude.{◌≡◌, ◌≢◌, ◌⊎◌, ⊤, ℕ, List, [], ◌∷◌, Bool, true, false, Option, Some, None, IfSome}
+use Rattle.std.specs.Prelude.{◌≡◌, ◌≢◌, ◌⊎◌, ⊤, ℕ, List, [], ◌∷◌, Bool, true, false, Option, Some, None, IfSome, codes}
+use Rattle.std.specs.Io.KnownBytes.{Appends}
 use Rattle.clap.specs.Words.{Text, fault_of}
 use Rattle.app_command_line.specs.CommandLine.{AsksNothing, IsCommandLine, IsUsageFor, command_line}
 use Rattle.app_orders.specs.declared.coloring.Coloring.{Coloring}
@@ -9,6 +10,7 @@ use Rattle.app_orders.specs.declared.detail.Detail.{Detail}
 use Rattle.app_orders.specs.declared.manner.Asked.{Asked}
 use Rattle.app_orders.specs.declared.order.Task.TheVariants.{OfPage}
 use Rattle.app_orders.specs.declared.page.Page.{Page}
+use Rattle.app_command_line.specs.Misuses.{fault_text}
 use Rattle.app_command_line.specs.Options.{AreFiles}
 use Rattle.app_command_line.specs.declared.command.Usage.{Usage}
 use Rattle.app_command_line.specs.declared.sight.Sight.{Sight}
@@ -80,7 +82,7 @@ module _ (words : List Text) (terminals : Terminals) (label : Option (List ℕ))
   abbrev pub EndsFile : Known → Known → Known → Known → ℕ → Type 0
   EndsFile before after said_before said_after status = (reader : Known) × EndsInputOf reader before after said_before said_after status
 
--- the name of a file stands before its lines where there are several
+-- the name of a file comes before its lines where there are several
 abbrev pub label_of : Bool → Text → Option (List ℕ)
 label_of false name = None
 label_of true name = Some name
@@ -94,11 +96,28 @@ EndEach words terminals several (name ∷ names) before after said_before said_a
     × EndsFile words terminals (label_of several name) before between said_before said one
     × EndEach words terminals several names between after said said_after (worse worst one) status
 
+-- whether there are several files
+abbrev pub are_several : List Text → Bool
+are_several (first ∷ second ∷ further) = true
+are_several _ = false
+
+-- whether the files that some words name are several
+abbrev pub NameSeveral : List Text → Bool → Type 0
+NameSeveral words several = (files : List Text) → AreFiles false words files → several ≡ are_several files
+
 -- the files that some words name
 abbrev pub EndAll : List Text → Terminals → List Text → Known → Known → Known → Known → ℕ → Type 0
 EndAll words terminals further before after said_before said_after status =
-    (files : List Text) × (several : Bool) × AreFiles false further files
-    × EndEach words terminals several files before after said_before said_after 0 status
+    (files : List Text) × AreFiles false further files
+    × EndEach words terminals (are_several files) files before after said_before said_after 0 status
+
+-- what is said where one answer is wanted of several files, where memory suffices
+abbrev pub several_text : List ℕ
+several_text =
+    fault_text (codes "'-o' and '--html' take one FILE: each file has an answer of its own") (codes "explain [OPTIONS] <FILE>")
+
+abbrev pub SaysSeveral : Known → Known → Type 0
+SaysSeveral before after = (after ≡ before) ⊎ Appends before after several_text
 
 -- an answer that goes to a file or is a page is of one input
 abbrev pub IsOfOne : Asked → Type 0
@@ -109,8 +128,8 @@ abbrev pub EndsFiles : List Text → Terminals → List Text → Known → Known
 EndsFiles words terminals further before after said_before said_after status =
     EndAll words terminals further before after said_before said_after status
     ⊎ (EndsMisuse Unseen words before after said_before said_after status
-    ⊎ ((sight : Sight) × (asked : Asked) × IsCommandLine sight asked words × IsOfOne asked
-    × (status ≡ 2) × (after ≡ before) × SaysSome said_before said_after))
+    ⊎ ((sight : Sight) × (asked : Asked) × IsCommandLine sight asked words × IsOfOne asked × NameSeveral further true
+    × (status ≡ 2) × (after ≡ before) × SaysSeveral said_before said_after))
 
 -- words that name no file
 abbrev pub NamesNoFile : List Text → Type 0
@@ -122,8 +141,9 @@ abbrev pub IsAfterCommand : List Text → List Text → Type 0
 IsAfterCommand (program ∷ word ∷ rest) further = further ≡ rest
 IsAfterCommand _ further = ⊥
 
--- one run of the process: on the files that its words name, or on what the input's reader has
+-- one run of the process: on what the input's reader has, where its words name no file, and else on the files that they name
 abbrev pub EndsRun : List Text → Terminals → Known → Known → Known → Known → Known → ℕ → Type 0
 EndsRun words terminals reader before after said_before said_after status =
     (NamesNoFile words × EndsWords words terminals reader before after said_before said_after status)
-    ⊎ ((further : List Text) × IsAfterCommand words further × EndsFiles words terminals further before after said_before said_after status)
+    ⊎ ((¬ NamesNoFile words) × (further : List Text) × IsAfterCommand words further
+    × EndsFiles words terminals further before after said_before said_after status)

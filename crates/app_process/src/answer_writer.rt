@@ -136,7 +136,7 @@ impl<P: Eprint + Wait, W: Write> DressedWriter<'_, P, W> {
     }
 }
 
-// What it holds is not told: its lines are not those that were written to it.
+// No clause says what it holds: its lines are not those that were written to it.
 impl<P: Eprint + Wait, W: Write> Write for DressedWriter<'_, P, W> {
     fn write(&mut self, buffer: &[u8]) -> io::Result<usize> {
         self.write_dressed(buffer)?;

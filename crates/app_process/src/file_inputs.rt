@@ -4,8 +4,8 @@ ghost use Rattle.std.specs.Prelude.{◌≡◌, map, string_bytes, true};
 ghost use Rattle.std.specs.Io.KnownBytes.{prepend_known};
 ghost use Rattle.std.specs.Option.{option_copied};
 ghost use Rattle.app_command_line.specs.CommandLine.{AsksNothing};
-ghost use Rattle.app_process.specs.Process.{EndAll, EndsFile, EndsFiles, EndsInputOf, EndsMisuse, IsOfOne, label_of};
-ghost use Rattle.app_process.specs.Saying.{SaysSome};
+ghost use Rattle.app_process.specs.Process.{EndAll, EndsFile, EndsFiles, EndsInputOf, EndsMisuse, IsOfOne, NameSeveral, SaysSeveral};
+ghost use Rattle.app_process.specs.Process.{label_of};
 ghost use Rattle.app_process.specs.Statuses.{rank, worse};
 ghost use Rattle.app_process.specs.Steps.Choices.{AreChoices};
 
@@ -96,7 +96,8 @@ fn status_of_each<
 where
     P::Reader: Send,
     P::File: Send,
-    requires { AreChoices (map string_bytes all.now.words.now) choices.now }
+    requires choices { AreChoices (map string_bytes all.now.words.now) choices.now }
+    requires several { NameSeveral (map string_bytes further.now) all.now.is_many }
     ensures { EndAll (map string_bytes all.now.words.now) all.now.terminals (map string_bytes further.now)
         (W.contents writer) (W.contents result.0) (E.said errors) (E.said result.1) result.2 }
 {
@@ -117,7 +118,7 @@ where
     unreachable!()
 }
 
-// The name that stands before each line, where there are several files.
+// The name that comes before each line, where there are several files.
 fn label_for<'a>(is_many: bool, name: &'a str) -> Option<&'a str>
     ensures { option_copied result ≡ label_of is_many name.now }
 {
@@ -134,9 +135,15 @@ fn file_named(name: &str) -> Option<&str> {
 }
 
 // Whether words name more than one file.
-fn has_several(further: &[String]) -> bool {
+#[tactic(auto, using(crate::proofs::NamedFiles::names_none))]
+fn has_several(further: &[String]) -> bool
+    ensures { NameSeveral (map string_bytes further.now) result }
+{
     match next_file(further) {
-        Some((_, later)) => next_file(later).is_some(),
+        Some((_, later)) => match next_file(later) {
+            Some(_) => true,
+            None => false,
+        },
         None => false,
     }
 }
@@ -170,9 +177,8 @@ fn status_of_usage<P: Files + AllocGlobal + Eprint + Wait, W: Write, E: Say>(
 }
 
 // Says that an answer of this form is of one file.
-#[tactic(auto, using(crate::proofs::SaidLaws::says_no_more, crate::proofs::SaidLaws::says_some))]
 fn say_several<P: AllocGlobal, E: Say>(rt: &P, errors: &mut E)
-    ensures { SaysSome (E.said errors.old) (E.said errors.new) }
+    ensures { SaysSeveral (E.said errors.old) (E.said errors.new) }
 {
     let fault = "'-o' and '--html' take one FILE: each file has an answer of its own";
     if let Ok(text) = usage_fault(rt.alloc(), fault, "explain [OPTIONS] <FILE>") {

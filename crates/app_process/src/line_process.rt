@@ -1,11 +1,12 @@
 //! Lines of an input, each of which is to hold a history.
 
-ghost use Rattle.std.specs.Prelude.{◌≡◌, ◌≢◌, ◌⊎◌, IfErr, IfOk};
+ghost use Rattle.std.specs.Prelude.{◌≡◌, ◌≢◌, ◌⊎◌, IfErr, IfOk, OnOk};
 ghost use Rattle.std.specs.Option.{option_copied};
 ghost use Rattle.json_lines.specs.Lines.{AllAreAnswered, FirstAreAnswered};
 ghost use Rattle.app_engine.specs.LineAnswers.{IsLineAnswer};
 ghost use Rattle.app_process.specs.Endings.{EndsLines};
-ghost use Rattle.app_process.specs.Saying.{SaysSome};
+ghost use Rattle.app_process.specs.Steps.LineOutcomes.{SaysOutcome};
+ghost use Rattle.app_process.specs.Steps.Noticing.{HasNoticed, SaysNoticed};
 
 use crate::noticing::Noticing;
 use crate::place::Place;
@@ -21,7 +22,6 @@ use std::thread::Threads;
 /// Judges the history in each line of an input, and returns the writer and the exit status.
 ///
 /// Standard error gets one remark for the first blank line that is refused, and one for the first line that breaks off inside a JSON text.
-#[tactic(auto, using(crate::proofs::EndLaws::answers_lines, crate::proofs::EndLaws::fails_lines))]
 pub(crate) fn judge_lines_of_process<
     P: Threads + Wait + Sync + AllocGlobal + Eprint,
     R: Read + Drop + Send,
@@ -32,18 +32,13 @@ pub(crate) fn judge_lines_of_process<
         (E.said errors.old) (E.said errors.new) result.1 }
 {
     let reader = Noticing::of(judging.blank, reader);
-    let (mut reader, writer, outcome) = judge_noticed(place.rt, reader, writer, judging);
-    let status = match outcome {
-        Ok(outcome) => {
-            say_remarks(place, errors, &mut reader);
-            outcome.status()
-        }
-        Err(error) => report(place, errors, &error),
-    };
+    let (reader, writer, outcome) = judge_noticed(place.rt, reader, writer, judging);
+    let status = say_outcome(place, errors, &reader, &outcome);
     (writer, status)
 }
 
-// Judges the lines that a reader notices. Of what `judge_lines` promises, only the answers and the errors are told here.
+// Judges the lines that a reader notices. Of what `judge_lines` promises, the contract has the answers, the errors, and that all lines were
+// noticed.
 fn judge_noticed<
     P: Threads + Wait + Sync + AllocGlobal,
     R: Read + Drop + Send,
@@ -59,18 +54,36 @@ fn judge_noticed<
     ensures faulted { IfErr result.2 (λ e. e ≢ RunError.WriteFault → FirstAreAnswered (IsLineAnswer judging)
         (R.remaining reader.reader) (W.contents writer) (W.contents result.1)) }
     ensures error { IfErr result.2 (λ e. (e ≡ RunError.Memory) ⊎ ((e ≡ RunError.ReadFault) ⊎ (e ≡ RunError.WriteFault))) }
+    ensures noticed { OnOk result.2 (HasNoticed reader.noticed (R.remaining reader.reader) result.0.noticed) }
 {
     judge_lines(rt, reader, writer, judging)
 }
 
+// Says what was noticed of the lines, or why they have no answer, and returns the exit status.
+fn say_outcome<P: AllocGlobal + Eprint + Wait, R, E: Say>(
+    place: &Place<'_, P>,
+    errors: &mut E,
+    reader: &Noticing<R>,
+    outcome: &Result<Outcome, RunError>,
+) -> u8
+    ensures { SaysOutcome (option_copied place.now.label) reader.now.noticed outcome.now (E.said errors.old) (E.said errors.new) result }
+{
+    match outcome {
+        Ok(outcome) => {
+            say_remarks(place, errors, reader);
+            outcome.status()
+        }
+        Err(error) => report(place, errors, error),
+    }
+}
+
 // Says what was noticed of the lines, where memory suffices.
-#[tactic(auto, using(crate::proofs::SaidLaws::says_no_more, crate::proofs::SaidLaws::says_some))]
 fn say_remarks<P: AllocGlobal + Eprint + Wait, R, E: Say>(
     place: &Place<'_, P>,
     errors: &mut E,
-    reader: &mut Noticing<R>,
+    reader: &Noticing<R>,
 )
-    ensures { SaysSome (E.said errors.old) (E.said errors.new) }
+    ensures { SaysNoticed (option_copied place.now.label) reader.now.noticed (E.said errors.old) (E.said errors.new) }
 {
     if let Ok(remarks) = reader.remarks(place.rt.alloc()) {
         place.say(errors, remarks.as_str());

@@ -4,7 +4,8 @@ ghost use Rattle.std.specs.Prelude.{Option, ℕ, List, ◌≡◌, is_some};
 ghost use Rattle.std.specs.Io.KnownBytes.{Appends};
 ghost use Rattle.std.specs.Option.{option_copied};
 ghost use Rattle.app_logs.specs.LogAnswers.{every_in};
-ghost use Rattle.app_process.specs.Endings.{EndsLog, IsLateRemark, SaysCounts, SaysRemarks, TellsOfLog, cut_remark, is_excluded, torn_remark};
+ghost use Rattle.app_process.specs.Endings.{EndsLog, IsLateRemark, SaysCounts, SaysRemarks, TellsOfLog, cut_remark, is_excluded};
+ghost use Rattle.app_process.specs.Endings.{torn_remark};
 ghost use Rattle.app_process.specs.Statuses.{status_after, wants_counts};
 
 use crate::counting::counts_of_log;
@@ -143,7 +144,7 @@ fn is_excluded(outcome: Outcome) -> bool
     }
 }
 
-// Says on which lines a read and the write that it read stand, where a cut comes between them.
+// Says on which lines a read and the write that it read are, where a cut comes between them.
 #[tactic(auto, using(crate::proofs::EndLaws::no_late))]
 fn say_late<P: AllocGlobal + Eprint + Wait, E: Say>(
     place: &Place<'_, P>,

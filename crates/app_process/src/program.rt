@@ -1,6 +1,6 @@
 //! The process: its words, its streams and its exit status.
 
-ghost use Rattle.std.specs.Prelude.{◌≤◌, MatchOption, map, string_bytes};
+ghost use Rattle.std.specs.Prelude.{◌≤◌, IfSome, MatchOption, map, string_bytes};
 ghost use Rattle.app_process.specs.Process.{EndsRun, EndsWords, IsAfterCommand, NamesNoFile};
 
 use crate::asked_input::{Given, status_of_asked};
@@ -82,8 +82,9 @@ where
 // The words after that of a command, where they name a file.
 #[tactic(auto, using(crate::proofs::AskedLaws::after_command, crate::proofs::AskedLaws::no_file, crate::proofs::AskedLaws::few_words))]
 fn words_with_files<'w>(words: &'w [String]) -> Option<&'w [String]>
-    ensures { MatchOption result (NamesNoFile (map string_bytes words.now))
+    ensures further { MatchOption result (NamesNoFile (map string_bytes words.now))
         (λ further. IsAfterCommand (map string_bytes words.now) (map string_bytes further.now)) }
+    ensures some { IfSome result (λ _. ¬ NamesNoFile (map string_bytes words.now)) }
 {
     let [_, _, further @ ..] = words else {
         return None;

@@ -18,7 +18,7 @@ const COLUMNS: usize = 79;
 
 /// How far the work on an input is. The thread that works tells it, and another one shows it.
 ///
-/// On a terminal it is one line, which is rewritten, and wiped before anything else is written; elsewhere each line stands.
+/// On a terminal it is one line, which is rewritten, and wiped before anything else is written; elsewhere each line stays.
 #[derive(Drop)]
 pub(crate) struct Progress<'a> {
     view: ProgressView<'a>,
@@ -34,10 +34,10 @@ pub(crate) struct Progress<'a> {
     line: Mutex<Line>,
 }
 
-/// The line that stands on standard error.
+/// The line that standard error shows.
 #[derive(Clone, Copy, Drop)]
 struct Line {
-    /// Whether a line stands on the terminal.
+    /// Whether the terminal shows a line.
     is_shown: bool,
     /// Whether something else is being written there.
     is_held: bool,

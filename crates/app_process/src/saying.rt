@@ -11,7 +11,7 @@ pub trait Say {
     // What was said so far, where that is known.
     ghost said: { Self → Option (List ℕ) } = { λ _. None };
 
-    /// Says a text as it stands. Nothing comes of a failure.
+    /// Says a text as it is. Nothing comes of a failure.
     fn say(&mut self, text: &str)
         ensures { Appends (said self.old) (said self.new) text.now };
 
@@ -56,7 +56,7 @@ pub(crate) fn say_lines<E: Say>(errors: &mut E, label: Option<&str>, text: &str)
     }
 }
 
-// Says what stands after the last line feed of a text, which is a line where it is not empty.
+// Says what comes after the last line feed of a text, which is a line where it is not empty.
 fn say_last<E: Say>(errors: &mut E, label: Option<&str>, text: &str)
     requires { (i : ℕ) → i < length text.now → slice_index text.now i ≢ 10 }
     ensures { Appends (E.said errors.old) (E.said errors.new) (said_lines (option_copied label.entry) text.now) }
