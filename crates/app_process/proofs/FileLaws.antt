@@ -154,8 +154,8 @@ module _ (words : List Text) (terminals : Terminals) (further : List Text) (befo
 pub several_ends : (words : List Text) (terminals : Terminals) (further : List Text) (output said_before said_after : Option (List ℕ)) (status : ℕ)
     (sight : Sight) (asked : Asked) (several : Bool) → IsCommandLine sight asked words → IsOfOne asked → NameSeveral further several → several ≡ true
     → status ≡ 2 → SaysSeveral said_before said_after → EndsFiles words terminals further output output said_before said_after status
-several_ends words terminals further output said_before said_after status sight asked several is_line of_one is_several yes is_status said =
-    inr (inr (sight, asked, is_line, of_one, subst (NameSeveral further) yes is_several, is_status, refl, said))
+several_ends words terminals further output said_before said_after status sight asked several is_line of_one is_several are_many is_status said =
+    inr (inr (sight, asked, is_line, of_one, subst (NameSeveral further) are_many is_several, is_status, refl, said))
 
 -- the bytes that were read, and those that the reader still has
 pub chain_known : (bytes : List ℕ) (rest : Option (List ℕ)) → option_append (Some bytes) rest ≡ prepend_known bytes rest
