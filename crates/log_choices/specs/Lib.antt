@@ -1,0 +1,3 @@
+pub mod Choices
+pub mod ChosenHistories
+pub mod ChosenCriteria
