@@ -5,3 +5,5 @@ pub mod RenamedCriteria
 pub mod ResolvedEvents
 pub mod ResolvedValues
 pub mod ChosenShapes
+pub mod CallEffects
+pub mod ForcedOrders

@@ -1,3 +1,4 @@
 pub mod Choices
 pub mod ChosenHistories
 pub mod ChosenCriteria
+pub mod Forced
