@@ -7,3 +7,6 @@ pub mod ResolvedValues
 pub mod ChosenShapes
 pub mod CallEffects
 pub mod ForcedOrders
+pub mod ThinnerLogs
+pub mod ForcedHistories
+pub mod ForcedAnswers

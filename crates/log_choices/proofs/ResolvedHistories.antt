@@ -296,7 +296,7 @@ module _ (es : List Event) (f : Choice) where
         ∙ filter_map-map (resolved_call_of es f) (λ (a : Call). fork resolved a.place a.call a.ending)
         (λ (a : Call). fork_by es f a.place a.call a.ending) (map (renamed_operation spread)) fork-resolved (run_calls es)
 
-    start-resolved : (begun : ℕ → Begun) (i : ℕ) (l : List Event)
+    pub start-resolved : (begun : ℕ → Begun) (i : ℕ) (l : List Event)
         → filter_map start_entry (resolved_from es f begun i l) ≡ renamed_start spread (filter_map start_entry l)
     unfolding resolved_from
     start-resolved begun i [] = refl
