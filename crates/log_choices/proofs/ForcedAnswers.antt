@@ -15,11 +15,11 @@ use Rattle.log_events.specs.declared.event.Event.{Event}
 use Rattle.log_events.specs.Events.{IsEnded, IsAllowed}
 use Rattle.log_events.specs.Histories.{history_of}
 use Rattle.log_events.specs.Values.{HasDistinctValues}
-use Rattle.log_choices.specs.Choices.{Choice, IsCandidate, IsNullRead}
+use Rattle.log_choices.specs.Choices.{Choice, IsCandidate, IsNullRead, IsPartOf}
 use Rattle.log_choices.specs.ChosenCriteria.{MeetsBy, IsLogNo}
 use Rattle.log_choices.specs.ChosenHistories.{history_by}
 use Rattle.log_choices.specs.Forced.{Comes, IsOut, LacksCandidates, IsForcedChoice}
-use Rattle.log_choices.proofs.ForcedHistories.{IsPartOf, part-meets, to-resolved}
+use Rattle.log_choices.proofs.ForcedHistories.{part-meets, to-resolved}
 use Rattle.log_choices.proofs.ForcedOrders.{candidates-left, comes-acyclic, out-unseen}
 use Rattle.log_choices.proofs.ResolvedHistories.{resolved}
 
@@ -32,6 +32,14 @@ same-choice (Some p) (Some q) = ⊎_elim
     (λ (same : p ≡ q). inl (ap (λ (n : ℕ). Some n) same))
     (λ (apart : p ≢ q). inr (λ same. apart (same_Some _ _ same)))
     (cases_eq p q)
+
+-- each criterion contains causal consistency, where causal memory and causal convergence do
+pub all-consistent : ((h : MemoryHistory) → Meets memory_answer h Cm → Meets memory_answer h Cc)
+    → ((h : MemoryHistory) → Meets memory_answer h Ccv → Meets memory_answer h Cc)
+    → (h : MemoryHistory) (criterion : Criterion) → Meets memory_answer h criterion → Meets memory_answer h Cc
+all-consistent of_cm of_ccv h Cc met = met
+all-consistent of_cm of_ccv h Cm met = of_cm h met
+all-consistent of_cm of_ccv h Ccv met = of_ccv h met
 
 module _ (weaker : (h : MemoryHistory) (criterion : Criterion) → Meets memory_answer h criterion → Meets memory_answer h Cc)
     (in_time : Bool) (es : List Event) (allowed : IsAllowed es) (distinct : HasDistinctValues es) where

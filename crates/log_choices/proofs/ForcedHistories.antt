@@ -14,7 +14,7 @@ use Rattle.log_events.specs.Events.{IsEnded, IsAllowed, Call, run_calls}
 use Rattle.log_events.specs.Histories.{start_entry, is_deleted, history_of}
 use Rattle.log_events.proofs.CallPlaces.{calls-from, ended-from}
 use Rattle.cert_subhistories.proofs.KeptLists.{mapped_from}
-use Rattle.log_choices.specs.Choices.{Choice, IsNullRead}
+use Rattle.log_choices.specs.Choices.{Choice, IsNullRead, IsPartOf}
 use Rattle.log_choices.specs.ChosenHistories.{saw, history_by}
 use Rattle.log_choices.proofs.RenamedCriteria.{meets-renamed, renamed-meets}
 use Rattle.log_choices.proofs.ResolvedEvents.{resolved-allowed}
@@ -33,10 +33,6 @@ module _ (es : List Event) (f : Choice) (allowed : IsAllowed es) where
   from-resolved criterion met =
       renamed-meets spread (history_by es f) refl spread-once criterion
       (subst (λ (h : MemoryHistory). Meets memory_answer h criterion) (history-resolved es f allowed) met)
-
--- of the null reads one choice leaves out more than the other, and of the others it says the same
-abbrev pub IsPartOf : List Event → Choice → Choice → Type 0
-IsPartOf es g f = (client x i j : ℕ) (c : Option ℕ) → IsNullRead es client x i j → g i ≡ Some c → f i ≡ Some c
 
 module _ (es : List Event) (g f : Choice) (allowed : IsAllowed es) (part : IsPartOf es g f) where
   ending-alike : (a : Call) (k : ℕ) → slice_get (run_calls es) k ≡ Some a → IsAlike (resolved_call_of es g a) (resolved_call_of es f a)

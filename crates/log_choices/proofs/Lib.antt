@@ -10,3 +10,4 @@ pub mod ForcedOrders
 pub mod ThinnerLogs
 pub mod ForcedHistories
 pub mod ForcedAnswers
+pub mod ChosenCuts

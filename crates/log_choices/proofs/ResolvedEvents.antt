@@ -172,7 +172,7 @@ module _ (es : List Event) (f : Choice) where
 
   module _ (allowed : IsAllowed es) where
     -- the pending call of a client is the last that it began
-    open-begun : (c : ℕ) (call : ClientCall) (i j : ℕ) → IsOpen es c call i j → begun_at j c ≡ (i, call)
+    pub open-begun : (c : ℕ) (call : ClientCall) (i j : ℕ) → IsOpen es c call i j → begun_at j c ≡ (i, call)
     open-begun c call i j pending =
         begun-last (nothing_begun es f) 0 es i j i c call (omega arith) pending.begun pending.earlier
         (λ m other above under at.

@@ -38,3 +38,7 @@ IsWhole es f = (client x i j : ℕ) → IsNullRead es client x i j → f i ≢ N
 -- the choice that leaves all null reads out
 abbrev pub leaves_out : Choice
 leaves_out place = None
+
+-- one choice leaves out more of the null reads than the other, and says the same of the rest
+abbrev pub IsPartOf : List Event → Choice → Choice → Type 0
+IsPartOf es g f = (client x i j : ℕ) (c : Option ℕ) → IsNullRead es client x i j → g i ≡ Some c → f i ≡ Some c

@@ -2,3 +2,4 @@ pub mod Choices
 pub mod ChosenHistories
 pub mod ChosenCriteria
 pub mod Forced
+pub mod TimedLogs

@@ -1,0 +1,5 @@
+use Rattle.log_choices.proofs.ForcedHistories.{part-meets}
+use Rattle.log_choices.proofs.laws.null_reads_may_be_left_out.Goals as goal
+
+pub returns : goal.returns
+returns c = part-meets
