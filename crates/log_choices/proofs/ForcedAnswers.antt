@@ -47,15 +47,15 @@ module _ (weaker : (h : MemoryHistory) (criterion : Criterion) → Meets memory_
   consistent f criterion by = to-resolved es f allowed Cc (weaker (history_by es f) criterion by.met)
 
   pub out-excluded : (f : Choice) (criterion : Criterion) → MeetsBy in_time es f criterion → (r : ℕ) (c : Option ℕ) → IsOut in_time es r c → f r ≢ Some c
-  out-excluded f criterion by r c = out-unseen es f allowed in_time distinct by.choice by.whole (consistent f criterion by)
+  out-excluded f criterion by r c = out-unseen es f allowed in_time by.choice distinct by.whole (consistent f criterion by)
 
   pub no-candidates : (r : ℕ) → LacksCandidates in_time es r → (criterion : Criterion) → IsLogNo in_time es criterion
-  no-candidates r lacks criterion f by = candidates-left es f allowed in_time distinct by.choice by.whole (consistent f criterion by) r lacks
+  no-candidates r lacks criterion f by = candidates-left es f allowed in_time by.choice distinct by.whole (consistent f criterion by) r lacks
 
   pub no-round : (client i j : ℕ) (call : ClientCall) (ending : Ending) → IsEnded es client call i j ending → ending ≢ Failed → ending ≢ Lost
       → Comes in_time es i i → (criterion : Criterion) → IsLogNo in_time es criterion
   no-round client i j call ending end not_failed not_lost comes criterion f by =
-      comes-acyclic es f allowed in_time distinct by.choice by.whole (consistent f criterion by) client i j call ending end not_failed not_lost comes
+      comes-acyclic es f allowed in_time by.choice distinct by.whole (consistent f criterion by) client i j call ending end not_failed not_lost comes
 
   -- what is forced is a part of each whole choice
   forced-part : (g f : Choice) (criterion : Criterion) → IsForcedChoice in_time es g → MeetsBy in_time es f criterion → IsPartOf es g f

@@ -11,3 +11,4 @@ pub mod ThinnerLogs
 pub mod ForcedHistories
 pub mod ForcedAnswers
 pub mod ChosenCuts
+pub mod ChosenReads

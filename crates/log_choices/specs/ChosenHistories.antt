@@ -1,5 +1,6 @@
 -- The memory history that a log stands for, by a choice of what its null reads saw.
-use Rattle.std.specs.Prelude.{ℕ, ◌==◌, ◌&&◌, Bool, false, if◌then◌else◌, List, [], ◌∷◌, ◌++◌, map, filter_map, option_map, Option, Some, None}
+use Rattle.std.specs.Prelude.{ℕ, ◌==◌, ◌&&◌, Bool, false, if◌then◌else◌, List, [], ◌∷◌, ◌++◌, map, filter_map, option_map}
+use Rattle.std.specs.Prelude.{Option, Some, None}
 use Rattle.std.specs.List.{list_any, range_with_len}
 use Rattle.model_objects.specs.declared.register.RegisterRet.TheVariants.{Done, Value}
 use Rattle.order_memory.specs.Memory.{MemoryHistory}
@@ -9,7 +10,8 @@ use Rattle.log_events.specs.declared.event.Ending.{Ending}
 use Rattle.log_events.specs.declared.event.Ending.TheVariants.{GotNothing, Lost}
 use Rattle.log_events.specs.declared.event.Event.{Event}
 use Rattle.log_events.specs.Events.{Call, run_calls, calls_of}
-use Rattle.log_events.specs.Histories.{key, mark, nothing, deleted, Operation, write, read, clients, start_entry, is_deleted, operation, fork}
+use Rattle.log_events.specs.Histories.{key, mark, nothing, deleted, Operation, write, read, clients, start_entry, is_deleted, operation}
+use Rattle.log_events.specs.Histories.{fork}
 use Rattle.log_choices.specs.Choices.{Choice}
 
 -- the value that a read returned that saw the start, or the delete that began at a place

@@ -1,5 +1,5 @@
--- What is forced where the history of a log by a whole choice is causally consistent: which calls come before which, and what null reads can't
--- have seen.
+-- What is forced where the history of a log by a whole choice is causally consistent: which calls come before which, and what null
+-- reads can't have seen.
 use Rattle.std.specs.Prelude.{◌≡◌, ◌≢◌, ◌⊎◌, ℕ, ◌<◌, Bool, List, Option, Some, None}
 use Rattle.log_events.specs.declared.event.ClientCall.{ClientCall}
 use Rattle.log_events.specs.declared.event.ClientCall.TheVariants.{WriteTo, ReadOf, DeleteOf}
@@ -38,8 +38,8 @@ module _ (es : List Event) where
 
 module _ (in_time : Bool) (es : List Event) where
   mutual
-    -- the call that begins at one place comes before the one that begins at the other: in one session, through a third call, as the write that
-    -- a read got, or as the only candidate that a null read is left with
+    -- the call that begins at one place comes before the one that begins at the other: in one session, through a third call, as the
+    -- write that a read got, or as the only candidate that a null read is left with
     pub data Comes : ℕ → ℕ → Type 0 where
       in_session : {a b : ℕ} → FollowsInSession es a b → Comes a b
       through : {a b c : ℕ} → Comes a b → Comes b c → Comes a c
@@ -47,11 +47,12 @@ module _ (in_time : Bool) (es : List Event) where
       only_left : {p r : ℕ} (client x j : ℕ) → IsNullRead es client x r j
           → ((c : Option ℕ) → IsCandidate in_time es x j c → c ≢ Some p → IsOut r c) → Comes p r
 
-    -- the null read that begins at the place r can't have seen this: a delete that comes after it, or that another write or delete of the
-    -- key replaced before it; or the start, where a write or a delete of the key comes before it
+    -- the null read that begins at the place r can't have seen this: a delete that comes after it, or that another write or delete of
+    -- the key replaced before it; or the start, where a write or a delete of the key comes before it
     pub data IsOut : ℕ → Option ℕ → Type 0 where
       after_read : {r p : ℕ} (client x j : ℕ) → IsNullRead es client x r j → Comes r p → IsOut r (Some p)
-      replaced : {r p : ℕ} (client x j b : ℕ) → IsNullRead es client x r j → BeginsWriteOf es x b → b ≢ p → Comes p b → Comes b r → IsOut r (Some p)
+      replaced : {r p : ℕ} (client x j b : ℕ) → IsNullRead es client x r j → BeginsWriteOf es x b → b ≢ p → Comes p b → Comes b r
+          → IsOut r (Some p)
       start_replaced : {r : ℕ} (client x j b : ℕ) → IsNullRead es client x r j → BeginsWriteOf es x b → Comes b r → IsOut r None
 
   -- a null read is left with no candidate

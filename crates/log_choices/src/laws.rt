@@ -1,16 +1,17 @@
 //! What holds of the histories that a log has by choices of what its null reads saw. The functions do nothing: what they ensure is the law.
 
-ghost use Rattle.std.specs.Prelude.{◌≡◌, ◌≢◌, ◌≤◌, ◌^◌, ℕ, Bool, List, Option, Some, length, take, true};
-ghost use Rattle.order_memory.specs.Memory.{IsDifferentiated, memory_answer};
+ghost use Rattle.std.specs.Prelude.{◌≡◌, ◌≢◌, ◌≤◌, ◌^◌, ℕ, Bool, List, None, Option, Some, length, take, true};
+ghost use Rattle.order_memory.specs.Memory.{initial, IsDifferentiated, memory_answer, Reads, Writes};
+ghost use Rattle.order_memory.specs.Relations.{ReadsFrom};
 ghost use Rattle.order_memory.specs.SourceOrder.{LacksSource};
 ghost use Rattle.cert_check.specs.Criteria.{Meets};
 ghost use Rattle.log_events.specs.declared.event.Ending.TheVariants.{Failed, Lost};
 ghost use Rattle.log_events.specs.Cuts.{ReturnsWhatWasBegun};
 ghost use Rattle.log_events.specs.Events.{IsAllowed, IsEnded};
-ghost use Rattle.log_events.specs.Histories.{history_of};
+ghost use Rattle.log_events.specs.Histories.{deleted, history_of, key};
 ghost use Rattle.log_events.specs.Shapes.{HasSmallKeys, IsShaped, NamesSmallKeys};
 ghost use Rattle.log_events.specs.Values.{HasDistinctValues};
-ghost use Rattle.log_choices.specs.Choices.{Choice, IsChoice, IsPartOf, leaves_out};
+ghost use Rattle.log_choices.specs.Choices.{Choice, IsChoice, IsNullRead, IsPartOf, leaves_out};
 ghost use Rattle.log_choices.specs.ChosenCriteria.{IsLogNo, LogMeets, MeetsBy};
 ghost use Rattle.log_choices.specs.ChosenHistories.{history_by};
 ghost use Rattle.log_choices.specs.Forced.{Comes, IsForcedChoice, IsOut, LacksCandidates};
@@ -21,6 +22,7 @@ use cert_check::laws::{
     causal_convergence_is_causally_consistent, causal_memory_is_causally_consistent,
 };
 use log_events::{ClientCall, Ending, Event};
+use model_history::OpId;
 use model_objects::Memory;
 
 /// The history of a log is the one by the choice that leaves all null reads out.
@@ -35,7 +37,8 @@ pub fn chosen_histories_are_shaped()
 
 /// By each choice the history of at most 2^31 events that name keys below 2^31 has keys below 2^32.
 pub fn chosen_keys_are_small()
-    ensures { (es : List Event) (f : Choice) → IsAllowed es → length es ≤ 2 ^ 31 → NamesSmallKeys es → HasSmallKeys (history_by es f) }
+    ensures { (es : List Event) (f : Choice) → IsAllowed es → length es ≤ 2 ^ 31 → NamesSmallKeys es
+        → HasSmallKeys (history_by es f) }
 {}
 
 /// Where no key is written twice with one value, by writes that are in the history, and no write writes what its key starts with, the
@@ -47,11 +50,23 @@ pub fn chosen_values_are_distinct()
 /// Where each read of a log returns what was begun before, and each null read saw a delete that was begun before it ended, no read of the
 /// history lacks a source.
 pub fn chosen_reads_have_sources()
-    ensures { (es : List Event) (f : Choice) → IsAllowed es → ReturnsWhatWasBegun es → IsChoice true es f → ¬ LacksSource (history_by es f) }
+    ensures { (es : List Event) (f : Choice) → IsAllowed es → ReturnsWhatWasBegun es → IsChoice true es f
+        → ¬ LacksSource (history_by es f) }
 {}
 
-/// Null reads may be left out: a choice that leaves out more of them gives a history that meets what it meets with them. So a log does not meet a
-/// criterion that its history without null reads does not meet.
+/// A null read that is not left out reads from the write of the delete that it saw, or it read the initial value where it saw the start.
+pub fn null_reads_read_what_they_saw()
+    ensures of_delete { (in_time : Bool) (es : List Event) (f : Choice) → IsAllowed es → HasDistinctValues es → IsChoice in_time es f
+        → (client x i j p : ℕ) → IsNullRead es client x i j → f i ≡ Some (Some p)
+        → (w r : OpId) × ReadsFrom (history_by es f) w r × Writes (history_by es f) w (key x) (deleted p)
+        × Reads (history_by es f) r (key x) (deleted p) }
+    ensures of_start { (in_time : Bool) (es : List Event) (f : Choice) → IsAllowed es → IsChoice in_time es f
+        → (client x i j : ℕ) → IsNullRead es client x i j → f i ≡ Some None
+        → (r : OpId) × Reads (history_by es f) r (key x) (initial (history_by es f) (key x)) }
+{}
+
+/// Null reads may be left out: a choice that leaves out more of them gives a history that meets what it meets with them. So a log does
+/// not meet a criterion that its history without null reads does not meet.
 pub fn null_reads_may_be_left_out()
     ensures { (es : List Event) (g f : Choice) → IsAllowed es → IsPartOf es g f → (criterion : Criterion)
         → Meets memory_answer (history_by es f) criterion → Meets memory_answer (history_by es g) criterion }
@@ -94,8 +109,8 @@ pub fn a_no_of_what_is_forced_is_a_no()
     causal_convergence_is_causally_consistent::<Memory>();
 }
 
-/// In a log of distinct values in the order of time, the first events meet what the whole meets. So the log does not meet a criterion that a cut does
-/// not meet, with calls that fail, are lost or are pending.
+/// In a log of distinct values in the order of time, the first events meet what the whole meets. So the log does not meet a criterion that
+/// a cut does not meet, with calls that fail, are lost or are pending.
 pub fn cuts_in_time_meet_what_the_log_meets()
     ensures { (es : List Event) (n : ℕ) → IsAllowed es → GotWhatWasBegun es → HasDistinctValues es → (criterion : Criterion)
         → LogMeets true es criterion → LogMeets true (take n es) criterion }
