@@ -13,12 +13,11 @@ use Rattle.log_events.specs.declared.event.Event.{Event}
 use Rattle.log_events.specs.Events.{IsEnded, IsAllowed, Call, run_calls}
 use Rattle.log_events.specs.Histories.{start_entry, is_deleted, history_of}
 use Rattle.log_events.proofs.CallPlaces.{calls-from, ended-from}
-use Rattle.cert_subhistories.proofs.KeptLists.{mapped_from}
 use Rattle.log_choices.specs.Choices.{Choice, IsNullRead, IsPartOf}
 use Rattle.log_choices.specs.ChosenHistories.{saw, history_by}
 use Rattle.log_choices.proofs.RenamedCriteria.{meets-renamed, renamed-meets}
 use Rattle.log_choices.proofs.ResolvedEvents.{resolved-allowed}
-use Rattle.log_choices.proofs.ResolvedHistories.{spread, spread-once, resolved, nothing_begun, resolved-run, undeleted, start-resolved, history-resolved}
+use Rattle.log_choices.proofs.ResolvedHistories.{spread, spread-once, resolved, nothing_begun, run-from, run-to, undeleted, start-resolved, history-resolved}
 use Rattle.log_choices.proofs.ResolvedLogs.{resolved_call, resolved_miss, resolved_ending, resolved_call_of}
 use Rattle.log_choices.proofs.ThinnerLogs.{IsAlike, IsThinner, thinner-meets}
 
@@ -84,25 +83,15 @@ module _ (es : List Event) (g f : Choice) (allowed : IsAllowed es) (part : IsPar
       by_call (ReadOf x) (Some Failed) called ended = inl refl
       by_call (ReadOf x) (Some Lost) called ended = inl refl
 
-  run-at : (h : Choice) (k : ℕ) → slice_get (run_calls (resolved es h)) k ≡ option_map (resolved_call_of es h) (slice_get (run_calls es) k)
-  run-at h k = ap (λ (l : List Call). slice_get l k) (resolved-run es h allowed) ∙ slice_get-map (resolved_call_of es h) (run_calls es) k
-
-  run-from : (h : Choice) (k : ℕ) (b : Call) → slice_get (run_calls (resolved es h)) k ≡ Some b
-      → (a : Call) × (slice_get (run_calls es) k ≡ Some a) × (resolved_call_of es h a ≡ b)
-  run-from h k b at = mapped_from (resolved_call_of es h) (slice_get (run_calls es) k) b (sym (run-at h k) ∙ at)
-
-  run-to : (h : Choice) (k : ℕ) (a : Call) → slice_get (run_calls es) k ≡ Some a → slice_get (run_calls (resolved es h)) k ≡ Some (resolved_call_of es h a)
-  run-to h k a at = run-at h k ∙ ap (option_map (resolved_call_of es h)) at
-
   part-thinner : IsThinner (resolved es g) (resolved es f)
   part-thinner = record {
     starts = start-resolved es g allowed (nothing_begun es g) 0 es ∙ sym (start-resolved es f allowed (nothing_begun es f) 0 es);
     forth = λ k b at.
-        let (a, there, same) = run-from g k b at in
-        (resolved_call_of es f a, run-to f k a there, subst (λ (c : Call). IsAlike c (resolved_call_of es f a)) same (ending-alike a k there));
+        let (a, there, same) = run-from es g allowed k b at in
+        (resolved_call_of es f a, run-to es f allowed k a there, subst (λ (c : Call). IsAlike c (resolved_call_of es f a)) same (ending-alike a k there));
     back = λ k b at.
-        let (a, there, same) = run-from f k b at in
-        (resolved_call_of es g a, run-to g k a there, subst (λ (c : Call). IsAlike (resolved_call_of es g a) c) same (ending-alike a k there));
+        let (a, there, same) = run-from es f allowed k b at in
+        (resolved_call_of es g a, run-to es g allowed k a there, subst (λ (c : Call). IsAlike (resolved_call_of es g a) c) same (ending-alike a k there));
     thin_undeleted = undeleted es g allowed;
     whole_undeleted = undeleted es f allowed;
   }

@@ -12,3 +12,5 @@ pub mod ForcedHistories
 pub mod ForcedAnswers
 pub mod ChosenCuts
 pub mod ChosenReads
+pub mod ChosenEffects
+pub mod ChosenAnswers

@@ -1,10 +1,12 @@
 -- The history of a log by a choice is that of the resolved log, with other values.
 use Rattle.std.proofs.Common.{◌≡◌, ℕ, ◌+◌, ◌-◌, ◌*◌, true, false, Bool, List, [], ◌∷◌, ◌++◌, map, refl, ap, sym, ◌∙◌, ⊎_elim, arith}
-use Rattle.std.specs.Prelude.{◌≢◌, ◌==◌, ◌&&◌, ◌||◌, if◌then◌else◌, Option, Some, None, option_map, filter, filter_map, max}
+use Rattle.std.specs.Prelude.{◌≢◌, ◌==◌, ◌&&◌, ◌||◌, if◌then◌else◌, Option, Some, None, option_map, filter, filter_map, max, slice_get}
 use Rattle.std.specs.List.{list_any, cons_option, range_with_len}
 use Rattle.std.proofs.lemmas.Bool.{cases_eq, eq-eqb, ne_eqb}
 use Rattle.std.proofs.lemmas.List.{map-append}
+use Rattle.std.proofs.lemmas.Option.{slice_get-map}
 use Rattle.model_objects.specs.declared.register.RegisterRet.TheVariants.{Done, Value}
+use Rattle.cert_subhistories.proofs.KeptLists.{mapped_from}
 use Rattle.log_events.specs.declared.event.ClientCall.{ClientCall}
 use Rattle.log_events.specs.declared.event.ClientCall.TheVariants.{WriteTo, ReadOf, DeleteOf}
 use Rattle.log_events.specs.declared.event.Ending.{Ending}
@@ -170,6 +172,16 @@ module _ (es : List Event) (f : Choice) where
     pub resolved-run : run_calls resolved ≡ map (resolved_call_of es f) (run_calls es)
     resolved-run = resolved-calls es f nothing_begun 0 es (allowed-turns es allowed)
 
+    run-at : (k : ℕ) → slice_get (run_calls resolved) k ≡ option_map (resolved_call_of es f) (slice_get (run_calls es) k)
+    run-at k = ap (λ (l : List Call). slice_get l k) resolved-run ∙ slice_get-map (resolved_call_of es f) (run_calls es) k
+
+    pub run-from : (k : ℕ) (b : Call) → slice_get (run_calls resolved) k ≡ Some b
+        → (a : Call) × (slice_get (run_calls es) k ≡ Some a) × (resolved_call_of es f a ≡ b)
+    run-from k b at = mapped_from (resolved_call_of es f) (slice_get (run_calls es) k) b (sym (run-at k) ∙ at)
+
+    pub run-to : (k : ℕ) (a : Call) → slice_get (run_calls es) k ≡ Some a → slice_get (run_calls resolved) k ≡ Some (resolved_call_of es f a)
+    run-to k a at = run-at k ∙ ap (option_map (resolved_call_of es f)) at
+
     pub returned-value : (x v : ℕ) → is_returned resolved x (2 * v) ≡ is_returned es x v
     returned-value x v =
         ap (list_any (λ (a : Call). gets x (2 * v) a.call a.ending)) resolved-run
@@ -305,7 +317,7 @@ module _ (es : List Event) (f : Choice) where
     start-resolved begun i (Begins c call ∷ l) = start-resolved (begun_after es f begun i (Begins c call)) (i + 1) l
     start-resolved begun i (Ends c ending ∷ l) = start-resolved begun (i + 1) l
 
-    clients-resolved : (begun : ℕ → Begun) (i : ℕ) (l : List Event) → clients (resolved_from es f begun i l) ≡ clients l
+    pub clients-resolved : (begun : ℕ → Begun) (i : ℕ) (l : List Event) → clients (resolved_from es f begun i l) ≡ clients l
     unfolding resolved_from
     clients-resolved begun i [] = refl
     clients-resolved begun i (Starts x v ∷ l) = clients-resolved begun (i + 1) l

@@ -3,3 +3,4 @@ pub mod ChosenHistories
 pub mod ChosenCriteria
 pub mod Forced
 pub mod TimedLogs
+pub mod Effects

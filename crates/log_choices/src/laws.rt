@@ -1,8 +1,8 @@
 //! What holds of the histories that a log has by choices of what its null reads saw. The functions do nothing: what they ensure is the law.
 
-ghost use Rattle.std.specs.Prelude.{◌≡◌, ◌≢◌, ◌≤◌, ◌^◌, ℕ, Bool, List, None, Option, Some, length, take, true};
+ghost use Rattle.std.specs.Prelude.{◌≡◌, ◌≢◌, ◌≤◌, ◌^◌, ℕ, Bool, List, None, Option, Some, false, length, take, true};
 ghost use Rattle.order_memory.specs.Memory.{initial, IsDifferentiated, memory_answer, Reads, Writes};
-ghost use Rattle.order_memory.specs.Relations.{ReadsFrom};
+ghost use Rattle.order_memory.specs.Relations.{CO, ReadsFrom};
 ghost use Rattle.order_memory.specs.SourceOrder.{LacksSource};
 ghost use Rattle.cert_check.specs.Criteria.{Meets};
 ghost use Rattle.log_events.specs.declared.event.Ending.TheVariants.{Failed, Lost};
@@ -14,6 +14,7 @@ ghost use Rattle.log_events.specs.Values.{HasDistinctValues};
 ghost use Rattle.log_choices.specs.Choices.{Choice, IsChoice, IsNullRead, IsPartOf, leaves_out};
 ghost use Rattle.log_choices.specs.ChosenCriteria.{IsLogNo, LogMeets, MeetsBy};
 ghost use Rattle.log_choices.specs.ChosenHistories.{history_by};
+ghost use Rattle.log_choices.specs.Effects.{TookEffectBy};
 ghost use Rattle.log_choices.specs.Forced.{Comes, IsForcedChoice, IsOut, LacksCandidates};
 ghost use Rattle.log_choices.specs.TimedLogs.{GotWhatWasBegun};
 
@@ -66,11 +67,29 @@ pub fn null_reads_read_what_they_saw()
 {}
 
 /// Null reads may be left out: a choice that leaves out more of them gives a history that meets what it meets with them. So a log does
-/// not meet a criterion that its history without null reads does not meet.
+/// not meet a criterion that its history without null reads does not meet. Values need not be distinct.
 pub fn null_reads_may_be_left_out()
-    ensures { (es : List Event) (g f : Choice) → IsAllowed es → IsPartOf es g f → (criterion : Criterion)
+    ensures some { (es : List Event) (g f : Choice) → IsAllowed es → IsPartOf es g f → (criterion : Criterion)
         → Meets memory_answer (history_by es f) criterion → Meets memory_answer (history_by es g) criterion }
+    ensures all { (in_time : Bool) (es : List Event) → IsAllowed es → (criterion : Criterion)
+        → ¬ Meets memory_answer (history_of es) criterion → IsLogNo in_time es criterion }
 {}
+
+/// In the order of time null reads have fewer candidates: what a log meets in it, it meets without it.
+pub fn the_order_of_time_only_takes_candidates_away()
+    ensures { (es : List Event) (criterion : Criterion) → LogMeets true es criterion → LogMeets false es criterion }
+{}
+
+/// By a whole choice by which the history meets a criterion, what is forced is in its causal order: where one call comes before another, and
+/// that one took effect, the first took effect before it.
+pub fn what_is_forced_is_in_causal_order()
+    ensures { (in_time : Bool) (es : List Event) → IsAllowed es → HasDistinctValues es → (f : Choice) (criterion : Criterion)
+        → MeetsBy in_time es f criterion → (a b : ℕ) → Comes in_time es a b → (q : OpId) → TookEffectBy es f b q
+        → (o : OpId) × TookEffectBy es f a o × CO (history_by es f) o q }
+{
+    causal_memory_is_causally_consistent::<Memory>();
+    causal_convergence_is_causally_consistent::<Memory>();
+}
 
 /// By a whole choice by which the history meets a criterion, no null read saw what is out for it.
 pub fn what_is_out_was_not_seen()
