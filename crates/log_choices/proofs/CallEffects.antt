@@ -1,19 +1,18 @@
 -- The operation that a call of a log took effect by: in its client's session, or in its fork where it was lost. What it writes or reads, and what
 -- comes before it.
-use Rattle.std.proofs.Common.{◌≡◌, ℕ, zero, suc, ◌+◌, ◌<◌, ◌≤◌, true, false, Bool, List, [], ◌∷◌, length, drop, refl, ap, sym, subst, ◌∙◌, inl, inr, ⊎_elim, arith}
-use Rattle.std.specs.Prelude.{◌≢◌, ◌⊎◌, ◌==◌, if◌then◌else◌, Option, Some, None, option_map, slice_get}
+use Rattle.std.proofs.Common.{◌≡◌, ℕ, suc, ◌+◌, ◌<◌, ◌≤◌, true, false, List, [], ◌∷◌, drop, refl, ap, sym, subst, ◌∙◌, inl, inr, ⊎_elim, arith}
+use Rattle.std.specs.Prelude.{◌≢◌, ◌⊎◌, ◌==◌, Option, Some, None, option_map, slice_get}
 use Rattle.std.proofs.lemmas.Bool.{and_from, cases_lt, eq-eqb}
 use Rattle.std.proofs.lemmas.Option.{same_Some}
-use Rattle.model_objects.specs.declared.register.RegisterRet.{RegisterRet}
 use Rattle.model_objects.specs.declared.register.RegisterRet.TheVariants.{Done, Value}
 use Rattle.model_history.specs.declared.op_id.OpId.{OpId}
-use Rattle.model_history.specs.History.{IsOp, Precedes, entry}
+use Rattle.model_history.specs.History.{Precedes, entry}
 use Rattle.order_causal.specs.Orders.{op}
 use Rattle.order_causal.proofs.PathsLaws.{leads-edge, leads-leads}
-use Rattle.order_memory.specs.Memory.{Reads, Writes, IsDifferentiated}
+use Rattle.order_memory.specs.Memory.{Reads, Writes}
 use Rattle.order_memory.specs.Relations.{CO, IsEdge, ReadsFrom}
 use Rattle.log_events.specs.declared.event.ClientCall.{ClientCall}
-use Rattle.log_events.specs.declared.event.ClientCall.TheVariants.{WriteTo, ReadOf, DeleteOf}
+use Rattle.log_events.specs.declared.event.ClientCall.TheVariants.{WriteTo, ReadOf}
 use Rattle.log_events.specs.declared.event.Ending.{Ending}
 use Rattle.log_events.specs.declared.event.Ending.TheVariants.{Answered, Got, GotNothing, Failed, Lost}
 use Rattle.log_events.specs.declared.event.Event.{Event}
@@ -24,7 +23,7 @@ use Rattle.log_events.specs.Values.{BeginsKeptWrite}
 use Rattle.log_events.proofs.AllowedLogs.{ended-fits}
 use Rattle.log_events.proofs.CallOperations.{fork-call, memory_call}
 use Rattle.log_events.proofs.CallPlaces.{IsCallAt, call_at, calls-from, calls-rise, calls-to, ended-from, ended-to}
-use Rattle.log_events.proofs.CallSlots.{IsMainAt, IsForkedAt, IsSlot, same-call, index-rises, main-entry, fork-entry, slot-op, slot-once, slot-one}
+use Rattle.log_events.proofs.CallSlots.{IsMainAt, IsForkedAt, same-call, index-rises, main-entry, fork-entry, slot-op, slot-once, slot-one}
 use Rattle.log_events.proofs.CutImages.{operation-call}
 use Rattle.log_events.proofs.ListPlaces.{list_any-to}
 use Rattle.log_events.proofs.OperationPlaces.{client_index, fork_session}

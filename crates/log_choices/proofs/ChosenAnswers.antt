@@ -1,5 +1,5 @@
 -- What follows for a log from its history without null reads, and from the order of time.
-use Rattle.std.proofs.Common.{◌≡◌, ℕ, true, false, Bool, List, ap, sym, subst, ◌∙◌}
+use Rattle.std.proofs.Common.{◌≡◌, ℕ, true, false, Bool, List, sym, subst}
 use Rattle.std.specs.Prelude.{Option, Some, None}
 use Rattle.order_memory.specs.Memory.{MemoryHistory, memory_answer}
 use Rattle.cert_check.specs.declared.criterion.Criterion.{Criterion}
@@ -7,9 +7,8 @@ use Rattle.cert_check.specs.Criteria.{Meets}
 use Rattle.log_events.specs.declared.event.Event.{Event}
 use Rattle.log_events.specs.Events.{IsAllowed}
 use Rattle.log_events.specs.Histories.{history_of}
-use Rattle.log_choices.specs.Choices.{Choice, IsCandidate, IsChoice, leaves_out}
-use Rattle.log_choices.specs.ChosenCriteria.{MeetsBy, LogMeets, IsLogNo}
-use Rattle.log_choices.specs.ChosenHistories.{history_by}
+use Rattle.log_choices.specs.Choices.{IsCandidate, leaves_out}
+use Rattle.log_choices.specs.ChosenCriteria.{LogMeets, IsLogNo}
 use Rattle.log_choices.proofs.ChosenShapes.{left_out-same}
 use Rattle.log_choices.proofs.ForcedHistories.{part-meets}
 

@@ -1,14 +1,12 @@
 -- In the order of time the first events of a log meet what the log meets: by the choice cut to the null reads among them.
-use Rattle.std.proofs.Common.{◌≡◌, ℕ, zero, suc, ◌+◌, ◌*◌, ◌<◌, ◌≤◌, true, false, Bool, List, [], ◌∷◌, length, take, refl, ap, sym, subst, ◌∙◌, inl, inr, ⊎_elim, arith}
-use Rattle.std.specs.Prelude.{◌≢◌, ◌⊎◌, IsTrue, if◌then◌else◌, Option, Some, None, slice_get}
-use Rattle.std.proofs.lemmas.Bool.{cases_lt}
-use Rattle.std.proofs.lemmas.Option.{same_Some, slice_get_within}
+use Rattle.std.proofs.Common.{◌≡◌, ℕ, zero, suc, ◌+◌, ◌*◌, ◌<◌, true, false, Bool, List, [], ◌∷◌, length, take, refl, ap, sym, subst, ◌∙◌, inl, inr, ⊎_elim, arith}
+use Rattle.std.specs.Prelude.{◌≢◌, ◌⊎◌, if◌then◌else◌, Option, Some, None, slice_get}
+use Rattle.std.proofs.lemmas.Option.{same_Some}
 use Rattle.model_objects.specs.declared.register.RegisterRet.{RegisterRet}
-use Rattle.model_objects.specs.declared.register.RegisterRet.TheVariants.{Value}
 use Rattle.model_history.specs.declared.op_id.OpId.{OpId}
 use Rattle.model_history.specs.History.{entry}
 use Rattle.order_causal.proofs.Fronts.{take-from, take-stands}
-use Rattle.order_memory.specs.Memory.{MemoryHistory, IsDifferentiated, Reads, Writes, initial, memory_answer}
+use Rattle.order_memory.specs.Memory.{MemoryHistory, Writes, initial, memory_answer}
 use Rattle.order_memory.proofs.MemoryLaws.{entry-call}
 use Rattle.cert_check.specs.declared.criterion.Criterion.{Criterion}
 use Rattle.cert_check.specs.declared.criterion.Criterion.TheVariants.{Cc}
@@ -22,7 +20,7 @@ use Rattle.log_events.specs.declared.event.Ending.TheVariants.{Answered, Got, Go
 use Rattle.log_events.specs.declared.event.Event.{Event}
 use Rattle.log_events.specs.declared.event.Event.TheVariants.{Starts, Begins, Ends}
 use Rattle.log_events.specs.Events.{Fits, IsAt, IsOpen, IsEnded, IsAllowed}
-use Rattle.log_events.specs.Histories.{key, mark, value, nothing, write, Operation, is_deleted, is_returned, history_of}
+use Rattle.log_events.specs.Histories.{key, mark, value, nothing, write, Operation, is_deleted, history_of}
 use Rattle.log_events.specs.Cuts.{IsBegunBefore, IsClosedCut}
 use Rattle.log_events.specs.Values.{BeginsKeptWrite, HasDistinctValues}
 use Rattle.log_events.proofs.AllowedLogs.{first-start}
@@ -41,7 +39,7 @@ use Rattle.log_choices.specs.ChosenHistories.{saw, history_by}
 use Rattle.log_choices.specs.TimedLogs.{GotWhatWasBegun}
 use Rattle.log_choices.proofs.CallEffects.{got-returned, miss-effect}
 use Rattle.log_choices.proofs.ForcedHistories.{from-resolved, to-resolved}
-use Rattle.log_choices.proofs.ResolvedEvents.{at-begins, at-resolved, begun_at, ended-resolved, open-begun, resolved-allowed, resolved-at, starts-at, at-starts}
+use Rattle.log_choices.proofs.ResolvedEvents.{at-begins, at-resolved, begun_at, ended-resolved, open-begun, resolved-allowed, resolved-at, starts-at}
 use Rattle.log_choices.proofs.ResolvedHistories.{resolved, undeleted}
 use Rattle.log_choices.proofs.ResolvedLogs.{Begun, resolved_call, resolved_miss, resolved_ending, resolved_event}
 use Rattle.log_choices.proofs.ResolvedValues.{got-from, resolved-distinct}

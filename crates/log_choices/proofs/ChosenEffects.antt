@@ -1,6 +1,6 @@
 -- The operation by which a call took effect, in the history by a choice and in that of the resolved log; and what is forced of these operations.
-use Rattle.std.proofs.Common.{◌≡◌, ℕ, zero, suc, ◌+◌, ◌<◌, ◌≤◌, true, false, Bool, List, [], ◌∷◌, length, map, take, refl, ap, sym, subst, ◌∙◌, inl, inr, ⊎_elim, arith}
-use Rattle.std.specs.Prelude.{◌≢◌, ◌⊎◌, ◌==◌, if◌then◌else◌, Option, Some, None, filter, filter_map, nat_lt, option_map, slice_get}
+use Rattle.std.proofs.Common.{◌≡◌, ℕ, zero, suc, ◌+◌, ◌<◌, ◌≤◌, true, false, Bool, List, [], ◌∷◌, length, map, take, refl, ap, sym, subst, ◌∙◌, inl, inr, arith}
+use Rattle.std.specs.Prelude.{◌==◌, if◌then◌else◌, Option, Some, None, filter, filter_map, nat_lt, option_map, slice_get}
 use Rattle.std.proofs.lemmas.Bool.{le-ltb, lt-ltb}
 use Rattle.std.proofs.lemmas.List.{length-map}
 use Rattle.std.proofs.lemmas.List.FromFn.{length-map-range_with_len}
@@ -18,23 +18,22 @@ use Rattle.log_events.specs.declared.event.ClientCall.TheVariants.{WriteTo, Read
 use Rattle.log_events.specs.declared.event.Ending.{Ending}
 use Rattle.log_events.specs.declared.event.Ending.TheVariants.{Answered, Got, GotNothing, Failed, Lost}
 use Rattle.log_events.specs.declared.event.Event.{Event}
-use Rattle.log_events.specs.Events.{IsAllowed, Call, calls_from, run_calls, calls_of}
-use Rattle.log_events.specs.Histories.{Operation, clients, operation, fork, client_session, history_of}
+use Rattle.log_events.specs.Events.{IsAllowed, Call, run_calls}
+use Rattle.log_events.specs.Histories.{Operation, clients, operation, fork, client_session}
 use Rattle.log_events.specs.Values.{HasDistinctValues}
 use Rattle.log_events.proofs.CallPlaces.{calls-rise}
-use Rattle.log_events.proofs.CallSlots.{IsMainAt, IsForkedAt}
-use Rattle.log_events.proofs.OperationPlaces.{client_index, client_sessions, fork_session}
+use Rattle.log_events.proofs.OperationPlaces.{client_index, fork_session}
 use Rattle.log_choices.specs.Choices.{Choice}
 use Rattle.log_choices.specs.ChosenCriteria.{MeetsBy}
-use Rattle.log_choices.specs.ChosenHistories.{seen_value, saw, operation_by, fork_by, history_by}
-use Rattle.log_choices.specs.Effects.{calls_before, operations_before, forks_before, IsEffectOf, TookEffectBy}
+use Rattle.log_choices.specs.ChosenHistories.{saw, operation_by, fork_by, history_by}
+use Rattle.log_choices.specs.Effects.{calls_before, operations_before, forks_before, TookEffectBy}
 use Rattle.log_choices.specs.Forced.{Comes}
 use Rattle.log_choices.proofs.CallEffects.{IsEffect}
 use Rattle.log_choices.proofs.ForcedHistories.{to-resolved}
 use Rattle.log_choices.proofs.ForcedOrders.{comes-before}
 use Rattle.log_choices.proofs.RenamedHistories.{renamed_operation, CO-renamed}
 use Rattle.log_choices.proofs.ResolvedHistories.{spread, spread-once, resolved, nothing_begun, resolved-run, run-from, run-to, filter-map, filter_map-map, operation-resolved, fork-resolved, clients-resolved, history-resolved}
-use Rattle.log_choices.proofs.ResolvedLogs.{resolved_call, resolved_miss, resolved_ending, resolved_call_of}
+use Rattle.log_choices.proofs.ResolvedLogs.{resolved_miss, resolved_ending, resolved_call_of}
 
 -- calls whose places rise: those that begin before one of them stand before it
 abbrev Rises : List Call → Type 0

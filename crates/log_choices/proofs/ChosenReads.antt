@@ -1,6 +1,6 @@
 -- Null reads that are not left out read what they saw.
-use Rattle.std.proofs.Common.{◌≡◌, ℕ, ◌+◌, ◌*◌, Bool, List, refl, ap, sym, subst, ◌∙◌, arith}
-use Rattle.std.specs.Prelude.{Option, Some, None}
+use Rattle.std.proofs.Common.{◌≡◌, ℕ, ◌+◌, ◌*◌, Bool, List, refl, sym, subst, ◌∙◌, arith}
+use Rattle.std.specs.Prelude.{Some, None}
 use Rattle.model_history.specs.declared.op_id.OpId.{OpId}
 use Rattle.order_memory.specs.Memory.{MemoryHistory, Reads, Writes, initial}
 use Rattle.order_memory.specs.Relations.{ReadsFrom}
@@ -11,12 +11,11 @@ use Rattle.log_events.specs.Histories.{deleted, key, value, history_of}
 use Rattle.log_events.specs.Values.{HasDistinctValues}
 use Rattle.log_choices.specs.Choices.{Choice, IsChoice, IsNullRead}
 use Rattle.log_choices.specs.ChosenHistories.{history_by}
-use Rattle.log_choices.proofs.CallEffects.{effect-once, read-effect, effect-writes}
+use Rattle.log_choices.proofs.CallEffects.{read-effect, effect-writes}
 use Rattle.log_choices.proofs.ForcedOrders.{chosen-miss, saw-delete, saw-start}
 use Rattle.log_choices.proofs.RenamedHistories.{renamed, reads-renamed, writes-renamed, reads_from-renamed, renamed-initial}
 use Rattle.log_choices.proofs.ResolvedEvents.{begins-at}
 use Rattle.log_choices.proofs.ResolvedHistories.{spread, spread-once, resolved, history-resolved}
-use Rattle.log_choices.proofs.ResolvedLogs.{resolved_miss}
 
 module _ (in_time : Bool) (es : List Event) (f : Choice) (allowed : IsAllowed es) where
   abbrev h : MemoryHistory

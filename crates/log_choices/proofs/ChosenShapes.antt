@@ -1,19 +1,19 @@
 -- The history of a log by a choice has the shape of a history, small keys and distinct values, where the log's has.
-use Rattle.std.proofs.Common.{◌≡◌, ℕ, ◌+◌, ◌*◌, ◌<◌, ◌≤◌, true, false, Bool, List, [], ◌∷◌, ◌++◌, length, map, refl, ap, sym, subst, ◌∙◌, inl, inr, ⊎_elim, arith}
-use Rattle.std.specs.Prelude.{◌≢◌, ◌⊎◌, ◌^◌, ◌==◌, ◌&&◌, ◌||◌, IsTrue, if◌then◌else◌, Option, Some, None, option_map, filter_map}
+use Rattle.std.proofs.Common.{◌≡◌, ℕ, ◌+◌, ◌*◌, ◌<◌, ◌≤◌, true, false, Bool, List, [], ◌∷◌, ◌++◌, length, refl, ap, sym, subst, ◌∙◌, inl, inr, ⊎_elim, arith}
+use Rattle.std.specs.Prelude.{◌⊎◌, ◌^◌, ◌==◌, ◌&&◌, ◌||◌, if◌then◌else◌, Option, Some, None, option_map, filter_map}
 use Rattle.std.specs.List.{list_any, range_with_len}
 use Rattle.std.proofs.lemmas.Option.{same_Some}
 use Rattle.model_objects.specs.declared.register.RegisterRet.TheVariants.{Done, Value}
-use Rattle.order_memory.specs.Memory.{MemoryHistory, IsDifferentiated}
+use Rattle.order_memory.specs.Memory.{IsDifferentiated}
 use Rattle.order_memory.specs.SourceOrder.{LacksSource}
 use Rattle.log_events.specs.declared.event.ClientCall.{ClientCall}
 use Rattle.log_events.specs.declared.event.ClientCall.TheVariants.{WriteTo, ReadOf, DeleteOf}
 use Rattle.log_events.specs.declared.event.Ending.{Ending}
 use Rattle.log_events.specs.declared.event.Ending.TheVariants.{Answered, Got, GotNothing, Failed, Lost}
 use Rattle.log_events.specs.declared.event.Event.{Event}
-use Rattle.log_events.specs.declared.event.Event.TheVariants.{Starts, Begins, Ends}
+use Rattle.log_events.specs.declared.event.Event.TheVariants.{Starts, Begins}
 use Rattle.log_events.specs.Events.{IsAt, IsEnded, IsAllowed, Call, run_calls, calls_of}
-use Rattle.log_events.specs.Histories.{key, mark, nothing, deleted, Operation, write, read, clients, start_entry, is_deleted, operation, fork, client_session, fork_sessions, history_of}
+use Rattle.log_events.specs.Histories.{key, mark, nothing, deleted, write, read, clients, start_entry, is_deleted, operation, fork, client_session, fork_sessions, history_of}
 use Rattle.log_events.specs.Cuts.{IsBegunBefore, ReturnsWhatWasBegun}
 use Rattle.log_events.specs.Shapes.{HasSmallKeys, IsShaped, NamesSmallKeys}
 use Rattle.log_events.specs.Values.{HasDistinctValues}
@@ -23,10 +23,10 @@ use Rattle.log_events.proofs.HistoryKeys.{keys-small}
 use Rattle.log_events.proofs.HistoryShape.{history-shaped}
 use Rattle.log_events.proofs.ListPlaces.{filter_map-same}
 use Rattle.log_events.proofs.ReadSources.{delete-names, sources-found}
-use Rattle.log_choices.specs.Choices.{Choice, BeginsKeptDelete, IsCandidate, IsChoice, IsNullRead, leaves_out}
-use Rattle.log_choices.specs.ChosenHistories.{seen_value, is_of_delete, saw, sees, is_seen, operation_by, fork_by, client_session_by, fork_sessions_by, history_by}
+use Rattle.log_choices.specs.Choices.{Choice, BeginsKeptDelete, IsChoice, IsNullRead, leaves_out}
+use Rattle.log_choices.specs.ChosenHistories.{seen_value, is_of_delete, saw, sees, operation_by, fork_by, client_session_by, fork_sessions_by, history_by}
 use Rattle.log_choices.proofs.RenamedHistories.{shaped-renamed, keys-renamed, distinct-renamed, lacks-renamed}
-use Rattle.log_choices.proofs.ResolvedEvents.{starts-at, at-starts, begins-at, at-begins, resolved-ended, resolved-allowed, resolved-small, resolved-length}
+use Rattle.log_choices.proofs.ResolvedEvents.{starts-at, at-starts, begins-at, resolved-ended, resolved-allowed, resolved-small, resolved-length}
 use Rattle.log_choices.proofs.ResolvedHistories.{spread, spread-once, resolved, map-same, history-resolved}
 use Rattle.log_choices.proofs.ResolvedLogs.{resolved_call, resolved_miss, resolved_ending}
 use Rattle.log_choices.proofs.ResolvedValues.{resolved-distinct, got-from, missed-from}

@@ -1,6 +1,6 @@
 -- Where no candidate is left for a null read, a call comes before itself, or the history of what is forced does not meet a criterion, the log does
 -- not meet it.
-use Rattle.std.proofs.Common.{◌≡◌, ℕ, Bool, List, refl, ap, sym, subst, ◌∙◌, inl, inr, ⊎_elim}
+use Rattle.std.proofs.Common.{◌≡◌, ℕ, Bool, List, refl, ap, ◌∙◌, inl, inr, ⊎_elim}
 use Rattle.std.specs.Prelude.{◌≢◌, ◌⊎◌, Option, Some, None}
 use Rattle.std.proofs.lemmas.Bool.{cases_eq}
 use Rattle.std.proofs.lemmas.Option.{same_Some}
@@ -15,7 +15,7 @@ use Rattle.log_events.specs.declared.event.Event.{Event}
 use Rattle.log_events.specs.Events.{IsEnded, IsAllowed}
 use Rattle.log_events.specs.Histories.{history_of}
 use Rattle.log_events.specs.Values.{HasDistinctValues}
-use Rattle.log_choices.specs.Choices.{Choice, IsCandidate, IsNullRead, IsPartOf}
+use Rattle.log_choices.specs.Choices.{Choice, IsPartOf}
 use Rattle.log_choices.specs.ChosenCriteria.{MeetsBy, IsLogNo}
 use Rattle.log_choices.specs.ChosenHistories.{history_by}
 use Rattle.log_choices.specs.Forced.{Comes, IsOut, LacksCandidates, IsForcedChoice}

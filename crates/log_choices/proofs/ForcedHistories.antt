@@ -1,7 +1,6 @@
 -- The history of a log by a choice meets what its history meets by each choice that has more of the reads and says the same of these.
-use Rattle.std.proofs.Common.{◌≡◌, ℕ, true, false, Bool, List, map, refl, ap, sym, subst, ◌∙◌, inl, inr, arith}
-use Rattle.std.specs.Prelude.{◌⊎◌, if◌then◌else◌, Option, Some, None, option_map, slice_get, filter_map}
-use Rattle.std.proofs.lemmas.Option.{same_Some, slice_get-map}
+use Rattle.std.proofs.Common.{◌≡◌, ℕ, true, false, Bool, List, refl, sym, subst, ◌∙◌, inl, inr, arith}
+use Rattle.std.specs.Prelude.{◌⊎◌, if◌then◌else◌, Option, Some, None, option_map, slice_get}
 use Rattle.order_memory.specs.Memory.{MemoryHistory, memory_answer}
 use Rattle.cert_check.specs.declared.criterion.Criterion.{Criterion}
 use Rattle.cert_check.specs.Criteria.{Meets}
@@ -11,10 +10,10 @@ use Rattle.log_events.specs.declared.event.Ending.{Ending}
 use Rattle.log_events.specs.declared.event.Ending.TheVariants.{Answered, Got, GotNothing, Failed, Lost}
 use Rattle.log_events.specs.declared.event.Event.{Event}
 use Rattle.log_events.specs.Events.{IsEnded, IsAllowed, Call, run_calls}
-use Rattle.log_events.specs.Histories.{start_entry, is_deleted, history_of}
+use Rattle.log_events.specs.Histories.{is_deleted, history_of}
 use Rattle.log_events.proofs.CallPlaces.{calls-from, ended-from}
 use Rattle.log_choices.specs.Choices.{Choice, IsNullRead, IsPartOf}
-use Rattle.log_choices.specs.ChosenHistories.{saw, history_by}
+use Rattle.log_choices.specs.ChosenHistories.{history_by}
 use Rattle.log_choices.proofs.RenamedCriteria.{meets-renamed, renamed-meets}
 use Rattle.log_choices.proofs.ResolvedEvents.{resolved-allowed}
 use Rattle.log_choices.proofs.ResolvedHistories.{spread, spread-once, resolved, nothing_begun, run-from, run-to, undeleted, start-resolved, history-resolved}

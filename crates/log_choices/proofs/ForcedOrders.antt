@@ -1,13 +1,12 @@
 -- What is forced holds in the history of a log by each whole choice by which it is causally consistent.
-use Rattle.std.proofs.Common.{◌≡◌, ℕ, zero, suc, ◌+◌, ◌-◌, ◌*◌, ◌<◌, true, false, Bool, List, drop, refl, ap, sym, subst, ◌∙◌, inl, inr, ⊎_elim, arith}
-use Rattle.std.specs.Prelude.{◌≢◌, ◌⊎◌, IsTrue, if◌then◌else◌, Option, Some, None, slice_get}
+use Rattle.std.proofs.Common.{◌≡◌, ℕ, suc, ◌+◌, ◌-◌, ◌*◌, ◌<◌, true, false, Bool, List, drop, refl, ap, sym, subst, ◌∙◌, inl, inr, ⊎_elim, arith}
+use Rattle.std.specs.Prelude.{◌≢◌, if◌then◌else◌, Option, Some, None, slice_get}
 use Rattle.std.proofs.lemmas.Bool.{cases_eq}
 use Rattle.std.proofs.lemmas.Option.{same_Some}
 use Rattle.model_history.specs.declared.op_id.OpId.{OpId}
 use Rattle.model_objects.specs.declared.register.RegisterRet.TheVariants.{Done, Value}
 use Rattle.order_causal.proofs.PathsLaws.{leads-edge, leads-leads}
 use Rattle.order_memory.specs.Memory.{MemoryHistory, Reads, Writes, IsDifferentiated, initial, memory_answer}
-use Rattle.order_memory.specs.OverwrittenReads.{HasOverwrittenRead, HasOverwrittenStart}
 use Rattle.order_memory.specs.Relations.{AreRivalWrites, CO, IsEdge, ReadsFrom}
 use Rattle.cert_check.specs.declared.criterion.Criterion.TheVariants.{Cc}
 use Rattle.cert_check.specs.Criteria.{Meets}
@@ -18,9 +17,9 @@ use Rattle.log_events.specs.declared.event.ClientCall.TheVariants.{WriteTo, Read
 use Rattle.log_events.specs.declared.event.Ending.{Ending}
 use Rattle.log_events.specs.declared.event.Ending.TheVariants.{Answered, Got, GotNothing, Failed, Lost}
 use Rattle.log_events.specs.declared.event.Event.{Event}
-use Rattle.log_events.specs.declared.event.Event.TheVariants.{Begins, Ends}
+use Rattle.log_events.specs.declared.event.Event.TheVariants.{Begins}
 use Rattle.log_events.specs.Events.{Fits, IsAt, IsEnded, IsAllowed, ending_in}
-use Rattle.log_events.specs.Histories.{key, value, nothing, Operation, read, write, is_returned, is_deleted, operation, history_of}
+use Rattle.log_events.specs.Histories.{key, value, nothing, Operation, read, write, is_deleted, operation, history_of}
 use Rattle.log_events.specs.Values.{BeginsKeptWrite, HasDistinctValues}
 use Rattle.log_events.proofs.AllowedLogs.{allowed-turns, ended-fits}
 use Rattle.log_events.proofs.CallPlaces.{call_at, ended-from, ended-to}
@@ -29,12 +28,11 @@ use Rattle.log_events.proofs.CutCalls.{unended}
 use Rattle.log_events.proofs.DistinctValues.{values-distinct}
 use Rattle.log_events.proofs.ListPlaces.{slice_get-drop}
 use Rattle.log_events.proofs.StartValues.{initial-unstarted}
-use Rattle.log_choices.specs.Choices.{Choice, BeginsKeptDelete, IsCandidate, IsChoice, IsNullRead, IsWhole}
-use Rattle.log_choices.specs.ChosenHistories.{saw}
+use Rattle.log_choices.specs.Choices.{Choice, IsCandidate, IsChoice, IsNullRead, IsWhole}
 use Rattle.log_choices.specs.Forced.{FollowsInSession, ReturnsWrite, BeginsWriteOf, Comes, IsOut, in_session, through, returned, only_left, after_read, replaced, start_replaced, LacksCandidates}
 use Rattle.log_choices.proofs.CallEffects.{IsEffect, effect-once, effect-apart, main-of, session-before, effect-writes, write-effect, read-effect, miss-effect, got-returned}
 use Rattle.log_choices.proofs.ChosenShapes.{stays-resolved}
-use Rattle.log_choices.proofs.ResolvedEvents.{at-starts, begins-at, ended-resolved, resolved-allowed, resolved-ended}
+use Rattle.log_choices.proofs.ResolvedEvents.{at-starts, begins-at, ended-resolved, resolved-allowed}
 use Rattle.log_choices.proofs.ResolvedHistories.{resolved, undeleted}
 use Rattle.log_choices.proofs.ResolvedLogs.{resolved_call, resolved_miss, resolved_ending}
 use Rattle.log_choices.proofs.ResolvedValues.{resolved-distinct}

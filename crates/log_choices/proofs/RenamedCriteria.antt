@@ -1,6 +1,6 @@
 -- A memory history with other values meets the same criteria.
-use Rattle.std.proofs.Common.{◌≡◌, ℕ, true, false, Bool, List, [], ◌∷◌, map, take, refl, ap, sym, subst, ◌∙◌}
-use Rattle.std.specs.Prelude.{◌==◌, IsTrue, if◌then◌else◌, Option, Some, None, option_map, filter, nat_lt}
+use Rattle.std.proofs.Common.{◌≡◌, ℕ, true, false, List, [], ◌∷◌, map, take, refl, ap, sym, subst, ◌∙◌}
+use Rattle.std.specs.Prelude.{◌==◌, if◌then◌else◌, Option, Some, None, option_map, filter, nat_lt}
 use Rattle.std.specs.List.{cons_option}
 use Rattle.std.proofs.lemmas.Option.{same_Some}
 use Rattle.model_objects.specs.Keyed.{calls_at}
@@ -10,7 +10,7 @@ use Rattle.model_objects.specs.declared.register.RegisterCall.TheVariants.{Write
 use Rattle.model_objects.specs.declared.register.RegisterRet.{RegisterRet}
 use Rattle.model_objects.specs.declared.register.RegisterRet.TheVariants.{Done, Value}
 use Rattle.model_history.specs.declared.op_id.OpId.{OpId}
-use Rattle.model_history.specs.History.{IsOp, entry, calls}
+use Rattle.model_history.specs.History.{entry, calls}
 use Rattle.order_causal.specs.Orders.{Ops, Order, IsLinearization}
 use Rattle.order_memory.specs.Memory.{MemoryCall, MemoryHistory, memory_answer, initial}
 use Rattle.cert_check.specs.declared.criterion.Criterion.{Criterion}

@@ -1,20 +1,19 @@
 -- A memory history with other values for its values: its operations, its causal order, and its shape.
-use Rattle.std.proofs.Common.{◌≡◌, ℕ, ◌+◌, ◌<◌, ◌^◌, true, Bool, List, [], ◌∷◌, length, map, get_or, refl, ap, sym, subst, ◌∙◌, inl, inr, ⊎_elim, arith}
+use Rattle.std.proofs.Common.{◌≡◌, ℕ, ◌<◌, ◌^◌, List, [], length, map, refl, ap, sym, subst, ◌∙◌, inl, inr, ⊎_elim, arith}
 use Rattle.std.specs.List.Sorted.{IsStrictlyIncreasing}
-use Rattle.std.specs.Prelude.{◌==◌, ◌≢◌, ◌⊎◌, Option, Some, None, option_map, slice_get, slice_index_or, unwrap_or}
+use Rattle.std.specs.Prelude.{◌==◌, ◌≢◌, Option, Some, None, option_map, slice_get, unwrap_or}
 use Rattle.std.proofs.Math.ListN.{get_or-map}
 use Rattle.std.proofs.lemmas.List.{length-map}
 use Rattle.std.proofs.lemmas.Map.Made.{keys_of-map_values, lookup-map_values}
 use Rattle.std.proofs.lemmas.Option.{same_Some, slice_get-map}
 use Rattle.model_objects.specs.Register.{matches}
-use Rattle.model_objects.specs.Table.{IsRising, value_at}
+use Rattle.model_objects.specs.Table.{value_at}
 use Rattle.model_objects.specs.declared.register.RegisterCall.{RegisterCall}
 use Rattle.model_objects.specs.declared.register.RegisterCall.TheVariants.{Write, Read}
 use Rattle.model_objects.specs.declared.register.RegisterRet.{RegisterRet}
 use Rattle.model_objects.specs.declared.register.RegisterRet.TheVariants.{Done, Value}
 use Rattle.model_history.specs.declared.op_id.OpId.{OpId}
 use Rattle.model_history.specs.History.{IsOp, Precedes, session, entry}
-use Rattle.order_causal.specs.Orders.{Leads}
 use Rattle.order_causal.proofs.PathsLaws.{leads-wider}
 use Rattle.order_memory.specs.Memory.{MemoryCall, MemoryHistory, IsDifferentiated, Reads, Writes, initial}
 use Rattle.order_memory.specs.Relations.{CO, IsEdge, ReadsFrom}

@@ -19,7 +19,7 @@ use Rattle.log_events.proofs.AllowedLogs.{allowed-turns}
 use Rattle.log_choices.specs.Choices.{Choice}
 use Rattle.log_choices.specs.ChosenHistories.{seen_value, is_of_delete, saw, sees, is_seen, operation_by, fork_by, client_session_by, fork_sessions_by, history_by}
 use Rattle.log_choices.proofs.RenamedHistories.{renamed, renamed_operation, renamed_start}
-use Rattle.log_choices.proofs.ResolvedLogs.{Begun, resolved_call, resolved_miss, resolved_ending, resolved_call_of, resolved_event, begun_after, resolved_from, resolved-calls}
+use Rattle.log_choices.proofs.ResolvedLogs.{Begun, resolved_call, resolved_miss, resolved_ending, resolved_call_of, begun_after, resolved_from, resolved-calls}
 
 -- the values of a resolved log: 0 stays, a value 2v + 1 becomes 4v + 1, and what a delete writes, 2p + 2, becomes 4p + 3
 abbrev pub spread : ℕ → ℕ

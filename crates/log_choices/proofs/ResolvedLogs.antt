@@ -1,6 +1,6 @@
 -- A log in which deletes are writes of values of their own, and null reads got what a choice says: its events and its calls.
-use Rattle.std.proofs.Common.{◌≡◌, ℕ, zero, suc, ◌+◌, ◌-◌, ◌*◌, ◌<◌, ◌≤◌, true, false, List, [], ◌∷◌, map, take, refl, ap, sym, subst, ◌∙◌, arith, eqb-true}
-use Rattle.std.specs.Prelude.{◌≢◌, ◌==◌, if◌then◌else◌, Option, Some, None, option_map, slice_get}
+use Rattle.std.proofs.Common.{◌≡◌, ℕ, zero, suc, ◌+◌, ◌-◌, ◌*◌, ◌<◌, true, false, List, [], ◌∷◌, map, refl, ap, sym, subst, ◌∙◌, arith, eqb-true}
+use Rattle.std.specs.Prelude.{◌≢◌, ◌==◌, if◌then◌else◌, Option, Some, None, option_map}
 use Rattle.std.proofs.lemmas.Option.{same_Some}
 use Rattle.std.proofs.lemmas.Bool.{eqb-false, eq-eqb, ne_eqb}
 use Rattle.log_events.specs.declared.event.ClientCall.{ClientCall}
@@ -9,7 +9,7 @@ use Rattle.log_events.specs.declared.event.Ending.{Ending}
 use Rattle.log_events.specs.declared.event.Ending.TheVariants.{Answered, Got, GotNothing, Failed, Lost}
 use Rattle.log_events.specs.declared.event.Event.{Event}
 use Rattle.log_events.specs.declared.event.Event.TheVariants.{Starts, Begins, Ends}
-use Rattle.log_events.specs.Events.{IsAt, IsOpen, IsAllowed, Call, ending_in, calls_from, run_calls}
+use Rattle.log_events.specs.Events.{IsAt, Call, ending_in, calls_from}
 use Rattle.log_events.proofs.CutCalls.{TakesTurns}
 use Rattle.log_choices.specs.Choices.{Choice}
 use Rattle.log_choices.specs.ChosenHistories.{saw}

@@ -1,19 +1,16 @@
 -- A resolved log has distinct values where the log has; and where the log is in the order of time, its reads return what was begun before.
-use Rattle.std.proofs.Common.{◌≡◌, ℕ, ◌+◌, ◌*◌, ◌<◌, true, false, Bool, List, refl, ap, sym, subst, ◌∙◌, inl, inr, ⊎_elim, arith}
-use Rattle.std.specs.Prelude.{◌≢◌, ◌⊎◌, IsTrue, if◌then◌else◌, Option, Some, None}
-use Rattle.std.proofs.lemmas.Bool.{cases_Bool}
+use Rattle.std.proofs.Common.{◌≡◌, ℕ, ◌+◌, ◌*◌, true, false, Bool, List, refl, sym, subst, ◌∙◌, inl, inr, arith}
+use Rattle.std.specs.Prelude.{◌≢◌, ◌⊎◌, if◌then◌else◌, Option, Some, None}
 use Rattle.log_events.specs.declared.event.ClientCall.{ClientCall}
 use Rattle.log_events.specs.declared.event.ClientCall.TheVariants.{WriteTo, ReadOf, DeleteOf}
 use Rattle.log_events.specs.declared.event.Ending.{Ending}
 use Rattle.log_events.specs.declared.event.Ending.TheVariants.{Answered, Got, GotNothing, Failed, Lost}
 use Rattle.log_events.specs.declared.event.Event.{Event}
-use Rattle.log_events.specs.declared.event.Event.TheVariants.{Starts, Begins, Ends}
+use Rattle.log_events.specs.declared.event.Event.TheVariants.{Starts, Begins}
 use Rattle.log_events.specs.Events.{IsAt, IsEnded, IsAllowed}
-use Rattle.log_events.specs.Histories.{is_deleted, is_returned}
-use Rattle.log_events.specs.Cuts.{IsBegunBefore}
+use Rattle.log_events.specs.Histories.{is_deleted}
 use Rattle.log_events.specs.Values.{BeginsKeptWrite, HasDistinctValues}
-use Rattle.log_choices.specs.Choices.{Choice, IsCandidate, IsChoice, IsNullRead}
-use Rattle.log_choices.specs.ChosenHistories.{saw}
+use Rattle.log_choices.specs.Choices.{Choice, IsNullRead}
 use Rattle.log_choices.proofs.ResolvedLogs.{resolved_call, resolved_miss, resolved_ending}
 use Rattle.log_choices.proofs.ResolvedHistories.{resolved, returned-value}
 use Rattle.log_choices.proofs.ResolvedEvents.{at-starts, at-begins, ended-resolved, resolved-ended}

@@ -1,15 +1,15 @@
 -- A log without deletes in which some reads of another one are lost, and all else is the same, meets what the other one meets.
-use Rattle.std.proofs.Common.{◌≡◌, ℕ, zero, suc, ◌<◌, ◌≤◌, true, false, Bool, List, [], ◌∷◌, length, take, refl, ap, sym, subst, ◌∙◌, inl, inr, ⊎_elim, arith}
+use Rattle.std.proofs.Common.{◌≡◌, ℕ, zero, suc, true, false, Bool, List, [], ◌∷◌, length, refl, ap, sym, subst, ◌∙◌, inl, inr, ⊎_elim, arith}
 use Rattle.std.specs.Prelude.{◌≢◌, ◌⊎◌, ◌==◌, IsTrue, if◌then◌else◌, Option, Some, None, slice_get, filter_map}
 use Rattle.std.proofs.Math.Seq.{take-length}
 use Rattle.std.proofs.lemmas.Bool.{and_from, eq-eqb}
-use Rattle.std.proofs.lemmas.Option.{same_Some, slice_get_within}
+use Rattle.std.proofs.lemmas.Option.{slice_get_within}
 use Rattle.model_objects.specs.declared.register.RegisterRet.{RegisterRet}
 use Rattle.model_objects.specs.declared.register.RegisterRet.TheVariants.{Done, Value}
 use Rattle.model_history.specs.declared.op_id.OpId.{OpId}
 use Rattle.model_history.specs.History.{IsOp, Precedes, session, entry}
 use Rattle.order_causal.specs.Orders.{op}
-use Rattle.order_memory.specs.Memory.{MemoryHistory, Reads, Writes, memory_answer}
+use Rattle.order_memory.specs.Memory.{Reads, Writes, memory_answer}
 use Rattle.order_memory.proofs.MemoryLaws.{entry-call}
 use Rattle.cert_check.specs.declared.criterion.Criterion.{Criterion}
 use Rattle.cert_check.specs.Criteria.{Meets}
@@ -22,13 +22,13 @@ use Rattle.log_events.specs.declared.event.Event.TheVariants.{Begins}
 use Rattle.log_events.specs.Events.{IsAllowed, Call, run_calls}
 use Rattle.log_events.specs.Histories.{key, mark, value, nothing, Operation, write, read, gets, start_entry, is_returned, is_deleted, operation, fork, history_of}
 use Rattle.log_events.specs.Cuts.{IsClosedCut}
-use Rattle.log_events.proofs.CallOperations.{IsOfRead, fork-call, fork-read, read-call, write-not_read}
+use Rattle.log_events.proofs.CallOperations.{IsOfRead, fork-call, fork-read, read-call}
 use Rattle.log_events.proofs.CallSlots.{IsMainAt, IsForkedAt, IsSlot, same-call, index-rises, main-entry, fork-entry, slot-op, slot-of, slot-once, slot-one, apart, main-order, fork-order, at-slot}
 use Rattle.log_events.proofs.CutImages.{chosen, chosen-from, chosen-to}
 use Rattle.log_events.proofs.CutShadows.{first-known}
 use Rattle.log_events.proofs.DistinctValues.{IsOfWrite, write-call, fork-write}
 use Rattle.log_events.proofs.ListPlaces.{list_any-from, list_any-to, slice_get-found}
-use Rattle.log_events.proofs.OperationPlaces.{IsRunCall, IsOfCall, IsForkOfCall, operation_of, fork_of, client_index, fork_session, history-from}
+use Rattle.log_events.proofs.OperationPlaces.{IsOfCall, IsForkOfCall, client_index, fork_session, history-from}
 use Rattle.log_events.proofs.Shadows.{is_known, has_return, IsShadow}
 use Rattle.log_events.proofs.ShadowConvergence.{shadow-meets}
 

@@ -1,5 +1,5 @@
 -- The operation of a history of a log by which a call took effect.
-use Rattle.std.specs.Prelude.{◌≡◌, ◌≢◌, ◌⊎◌, ℕ, ◌+◌, ◌==◌, List, Option, Some, None, filter, filter_map, length, nat_lt, slice_get}
+use Rattle.std.specs.Prelude.{◌≡◌, ◌≢◌, ◌⊎◌, ℕ, ◌+◌, ◌==◌, List, Some, filter, filter_map, length, nat_lt, slice_get}
 use Rattle.model_history.specs.declared.op_id.OpId.{OpId}
 use Rattle.order_causal.specs.Orders.{op}
 use Rattle.log_events.specs.declared.event.Ending.TheVariants.{Lost}
