@@ -14,3 +14,4 @@ pub mod ChosenCuts
 pub mod ChosenReads
 pub mod ChosenEffects
 pub mod ChosenAnswers
+pub mod ExampleChoices
