@@ -1,4 +1,4 @@
--- The memory history that a log stands for, by a choice of what its null reads saw.
+-- The memory history that a log gives, by a choice of what its null reads saw.
 use Rattle.std.specs.Prelude.{ℕ, ◌==◌, ◌&&◌, Bool, false, if◌then◌else◌, List, [], ◌∷◌, ◌++◌, map, filter_map, option_map}
 use Rattle.std.specs.Prelude.{Option, Some, None}
 use Rattle.std.specs.List.{list_any, range_with_len}
