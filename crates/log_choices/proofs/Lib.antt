@@ -1,0 +1,17 @@
+pub mod ResolvedLogs
+pub mod RenamedHistories
+pub mod ResolvedHistories
+pub mod RenamedCriteria
+pub mod ResolvedEvents
+pub mod ResolvedValues
+pub mod ChosenShapes
+pub mod CallEffects
+pub mod ForcedOrders
+pub mod ThinnerLogs
+pub mod ForcedHistories
+pub mod ForcedAnswers
+pub mod ChosenCuts
+pub mod ChosenReads
+pub mod ChosenEffects
+pub mod ChosenAnswers
+pub mod ExampleChoices

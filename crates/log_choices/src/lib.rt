@@ -1,0 +1,9 @@
+//! What the reads of a log that found nothing may have seen, and which histories the log gives.
+//!
+//! A read that found nothing, of a key that some delete names, may have seen the start or a delete. `specs/Choices` says which, and
+//! `specs/ChosenHistories` which history a log has for each choice. A log meets a criterion where its history does by some choice
+//! (`specs/ChosenCriteria`). `specs/Forced` says what holds by each such choice. In [`laws`] is what follows. It uses log_events and
+//! pattern_check.
+#![tactic(auto)]
+
+pub mod laws;
