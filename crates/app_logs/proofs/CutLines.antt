@@ -1,5 +1,5 @@
 -- Lines on cuts of a log, as the log grows and one cut more is judged.
-use Rattle.std.proofs.Common.{◌≡◌, ◌≤◌, ◌*◌, ℕ, zero, suc, List, [], ◌∷◌, ◌++◌, length, take, inl, inr, refl, sym, ap, subst, ◌∙◌, append_assoc, append-nil, arith}
+use Rattle.std.proofs.Common.{◌≡◌, ◌<◌, ◌≤◌, ◌*◌, ℕ, zero, suc, List, [], ◌∷◌, ◌++◌, length, take, inl, inr, refl, sym, ap, subst, ◌∙◌, append_assoc, append-nil, arith}
 use Rattle.std.proofs.lemmas.List.{take-append-le, take_all}
 use Rattle.app_orders.specs.declared.expected.Expected.{Expected}
 use Rattle.json_lines.specs.declared.outcome.Outcome.{Outcome}
@@ -10,6 +10,11 @@ use Rattle.log_events.specs.declared.event.Event.{Event}
 use Rattle.app_findings.specs.declared.finding.Findings.{Findings}
 use Rattle.app_engine.specs.Expecting.{outcome_for}
 use Rattle.app_logs.specs.Reports.{AreCutLines, IsReportOn, cut_line, multiples}
+
+-- where events were judged, a cut was
+pub count-above : (every count : ℕ) → 0 < every * count → 0 < count
+count-above every zero some = absurd (omega arith)
+count-above every (suc count) some = omega arith
 
 -- the numbers are at most this one
 abbrev AllUpTo : ℕ → List ℕ → Type 0

@@ -19,11 +19,12 @@ use Rattle.app_logs.specs.declared.late_writes.LateWrite.{LateWrite}
 use Rattle.app_logs.specs.declared.turn.Turn.{Turn}
 use Rattle.app_logs.specs.declared.turn.Turn.TheVariants.{On, Stopped, Ended}
 use Rattle.app_logs.specs.Failure.{error_of}
+use Rattle.app_logs.specs.Endings.{WritesCutsFront, WritesLineFront}
 use Rattle.app_logs.specs.LogAnswers.{IsLogOfFront, RefusesAfterCuts, RefusesLate, WatchesLog, WritesCutsUpTo, WritesFirstCuts}
 use Rattle.app_engine.specs.Expecting.{outcome_for}
 use Rattle.app_logs.specs.Reports.{AreCuts, AreCutLines, cut_line, multiples}
-use Rattle.app_logs.specs.Steps.Watching.{GoesOnBy, HasWatched, IsTurn, WritesCut, WritesLast}
-use Rattle.app_logs.proofs.CutLines.{lines-all, lines-none, multiples-kept, multiples-then}
+use Rattle.app_logs.specs.Steps.Watching.{BeginsLast, GoesOnBy, HasWatched, IsTurn, WritesCut, WritesLast}
+use Rattle.app_logs.proofs.CutLines.{count-above, lines-all, lines-none, multiples-kept, multiples-then}
 use Rattle.app_logs.proofs.Faults.{later-refusal}
 
 -- the lines that were read are the first ones of what the source had
@@ -65,10 +66,6 @@ all_cuts every count total from to new =
     let same : total ≡ every * suc count = omega arith in
     inl (suc count, omega arith, same, ap (λ n. multiples every count ++ (n ∷ [])) same ∙ sym (multiples-then every count)))
     (cases_lt total (every * suc count))
-
-count-above : (every count : ℕ) → 0 < every * count → 0 < count
-count-above every zero some = absurd (omega arith)
-count-above every (suc count) some = omega arith
 
 extends-up : (every count : ℕ) (es more all : List Event) → length es ≡ every * count → all ≡ es ++ more → every * count ≤ length all
 extends-up every count es more all events is =
@@ -316,3 +313,59 @@ module _ (every : ℕ) (expected : Expected) (first written : Option (List ℕ))
       (at-most count wanted old.log.events new.log.events watched.events (is ∙ ap (λ n. n + every) so_far) few)
       (subst (λ (n : ℕ). WritesLast expected new.log.events n writer_before writer_after outcome) (so_far ∙ watched.events)
       (subst (λ (l : List Event). WritesLast expected l judged writer_before writer_after outcome) same last))
+
+  -- ---- a turn whose line could not be written
+
+  kept-lines : (old new : Reading) (count : ℕ) (said : List ℕ) → Extends old.log new.log → length old.log.events ≡ every * count
+      → AreCutLines expected old.log.events (multiples every count) said Met → AreCutLines expected new.log.events (multiples every count) said Met
+  kept-lines old new count said extends events lines =
+      subst (λ (es : List Event). AreCutLines expected es (multiples every count) said Met) (sym extends.events.1)
+      (multiples-kept expected old.log.events extends.events.0 every count said Met events lines)
+
+  pub begun-more : (before source_after writer_before writer_after : Option (List ℕ)) (old new : Reading) (count judged wanted : ℕ) (es : List Event)
+      → HasWatched every expected first before written writer_before old count
+      → ReadsMore before source_after old new → Extends old.log new.log → judged ≡ length old.log.events → wanted ≡ judged + every
+      → wanted ≤ length new.log.events → length new.log.events ≤ max wanted (length old.log.events)
+      → es ≡ new.log.events → WritesLineFront es writer_before writer_after → WritesCutsFront every expected first written writer_after
+  begun-more before source_after writer_before writer_after old new count judged wanted es watched reads extends so_far is enough few same line =
+      let more = reads watched.text watched.read in record {
+        log = new.log;
+        count = count;
+        text = watched.said;
+        between = writer_before;
+        next =
+            inl (
+              next-count count wanted old.log.events new.log.events watched.events (is ∙ ap (λ n. n + every) so_far) enough few,
+              front-log first source_after (watched.text ++ more.0) new
+                  (Consumes-trans first before source_after watched.text more.0 watched.consumed more.1) more.2,
+            );
+        lines = kept-lines old new count watched.said extends watched.events watched.lines;
+        written = watched.written;
+        begun = subst (λ (l : List Event). WritesLineFront l writer_before writer_after) same line;
+      }
+
+  pub begun-end : (before source_after writer_before writer_after : Option (List ℕ)) (old new : Reading) (count judged wanted : ℕ) (es : List Event)
+      (torn : Bool) → HasWatched every expected first before written writer_before old count
+      → ReadsAll before source_after old new torn → Extends old.log new.log → judged ≡ length old.log.events → wanted ≡ judged + every
+      → length new.log.events ≤ max wanted (length old.log.events)
+      → es ≡ new.log.events → BeginsLast es judged writer_before writer_after → WritesCutsFront every expected first written writer_after
+  begun-end before source_after writer_before writer_after old new count judged wanted es torn watched reads extends so_far is few same last =
+      let fresh : (length new.log.events ≢ every * count) ⊎ (every * count ≡ 0) =
+      subst (λ (n : ℕ). (length new.log.events ≢ n) ⊎ (n ≡ 0)) (so_far ∙ watched.events)
+      (subst (λ (l : List Event). (length l ≢ judged) ⊎ (judged ≡ 0)) same last.0) in record {
+        log = new.log;
+        count = count;
+        text = watched.said;
+        between = writer_before;
+        next =
+            inr (
+              torn,
+              all_cuts every count (length new.log.events)
+                  (extends-up every count old.log.events extends.events.0 new.log.events watched.events extends.events.1)
+                  (at-most count wanted old.log.events new.log.events watched.events (is ∙ ap (λ n. n + every) so_far) few) fresh,
+              whole-log first before watched.text new.log torn watched.consumed (reads.log watched.text watched.read),
+            );
+        lines = kept-lines old new count watched.said extends watched.events watched.lines;
+        written = watched.written;
+        begun = subst (λ (l : List Event). WritesLineFront l writer_before writer_after) same last.1;
+      }

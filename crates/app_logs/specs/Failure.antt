@@ -38,14 +38,14 @@ words_for CallPending = codes "a begin of a client that has a call pending"
 words_for NothingPending = codes "the end of a call of a client that has none pending"
 words_for WrongEnd = codes "an answer that the pending call does not have: \"ok\" ends a write or a delete, a value or null ends a read"
 
--- `refused N LINE`, and in a second line what is wrong there, and what is told of it
+-- `refused N LINE`, and in a second line what is wrong there, with its details
 abbrev pub refusal_lines : Refusal → List ℕ → List ℕ
-refusal_lines refusal told =
-    codes "refused " ++ (decimal (code_of refusal.reason) ++ (codes " " ++ (decimal refusal.line ++ (codes "\nline " ++ (decimal refusal.line ++ (codes ": " ++ (words_for refusal.reason ++ told)))))))
+refusal_lines refusal details =
+    codes "refused " ++ (decimal (code_of refusal.reason) ++ (codes " " ++ (decimal refusal.line ++ (codes "\nline " ++ (decimal refusal.line ++ (codes ": " ++ (words_for refusal.reason ++ details)))))))
 
 -- the lines on standard error, without a line feed at the end
 abbrev pub lines_for : LogError → List ℕ → List ℕ
-lines_for (Refused refusal) told = refusal_lines refusal told
-lines_for Memory told = codes "no memory"
-lines_for ReadFault told = codes "read fault"
-lines_for WriteFault told = codes "write fault"
+lines_for (Refused refusal) details = refusal_lines refusal details
+lines_for Memory details = codes "no memory"
+lines_for ReadFault details = codes "read fault"
+lines_for WriteFault details = codes "write fault"

@@ -5,6 +5,8 @@ pub mod Notes
 pub mod TextLists
 pub mod LogTexts
 pub mod LogAnswers
+pub mod Endings
+pub mod ReadCalls
 pub mod Alone
 pub mod LogLines
 pub mod Steps

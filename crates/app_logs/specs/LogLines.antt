@@ -6,7 +6,7 @@ use Rattle.log_reader.specs.Logs.{IsLogOf, Log}
 use Rattle.app_engine.specs.MemoryLines.{AreTrueLines}
 
 -- a log was read to its end, and three lines were written after what the writer held, where both tell their bytes: each line is true of
--- the history that the events of the log stand for
+-- the history that the events of the log represent
 pub record JudgesLog (reader writer_before writer_after : Option (List ℕ)) (torn : Bool) : Type 0 where
   pub log : Log
   pub text : List ℕ

@@ -1,4 +1,4 @@
--- What is said of the history that a log stands for.
+-- What is said of the history of a log.
 use Rattle.std.specs.Prelude.{◌≡◌, ◌⊎◌, ◌≤◌, ◌<◌, ◌*◌, ℕ, zero, suc, List, [], ◌∷◌, ◌++◌, codes, decimal, take}
 use Rattle.app_orders.specs.declared.expected.Expected.{Expected}
 use Rattle.app_orders.specs.declared.length.Length.TheVariants.{Any}
@@ -15,7 +15,7 @@ use Rattle.app_explanations.specs.Report.{IsReportOf}
 use Rattle.app_engine.specs.Expecting.{outcome_for}
 use Rattle.app_engine.specs.LineAnswers.{joined_for}
 
--- the history that events stand for
+-- the history that events represent
 abbrev pub any_history_of : List Event → AnyHistory
 any_history_of events = histories.Memory (history_of events)
 

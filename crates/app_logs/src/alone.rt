@@ -26,29 +26,29 @@ pub fn judging_once() -> LogJudging
 /// The answer to an order on a log in memory, which is given once: `every` of an order to judge is passed over. It starts no thread. A
 /// last line that is not whole is passed over.
 ///
-/// Fails with the first line that is refused, and then appends what [`error_lines`](crate::error_lines) says of it besides its reason; or
-/// for want of memory. O(n (k + log n)) for a history of n operations in k sessions, and the cost of reading.
+/// Fails with the first line that is refused, and then appends to `details` what [`error_lines`](crate::error_lines) says of it besides its
+/// reason; or for want of memory. O(n (k + log n)) for a history of n operations in k sessions, and the cost of reading.
 pub fn answer_log_alone(
     alloc: Global,
     log: &[u8],
     order: &LogOrder,
-    told: &mut String,
+    details: &mut String,
 ) -> Result<Answered, LogError>
     ensures answer { IfOk result (λ answer. IsAnswerTo order.now log.now (string_bytes answer.text) answer.outcome) }
     ensures error { IfErr result (IsMemoryError log.now) }
 {
-    let whole = read_in_memory(alloc, log, shows_notes(order), told)?;
+    let whole = read_in_memory(alloc, log, shows_notes(order), details)?;
     answer_to(&CallingThread, alloc, whole, order)
 }
 
 /// The run of a log in memory, with its notes.
 ///
 /// It appends and fails as [`LoggedRun::read`] does, and has no read fault.
-pub fn run_in_memory(alloc: Global, log: &[u8], told: &mut String) -> Result<LoggedRun, LogError>
+pub fn run_in_memory(alloc: Global, log: &[u8], details: &mut String) -> Result<LoggedRun, LogError>
     ensures run { IfOk result (λ run. IsLogOf log.now run.log run.torn) }
     ensures error { IfErr result (IsMemoryError log.now) }
 {
-    let whole = read_in_memory(alloc, log, true, told)?;
+    let whole = read_in_memory(alloc, log, true, details)?;
     Ok(LoggedRun::of(alloc, whole)?)
 }
 
@@ -57,13 +57,13 @@ fn read_in_memory(
     alloc: Global,
     log: &[u8],
     keeps_notes: bool,
-    told: &mut String,
+    details: &mut String,
 ) -> Result<WholeLog, LogError>
     ensures whole { IfOk result (λ whole. IsLogOf log.now whole.reader.log whole.torn) }
     ensures error { IfErr result (IsMemoryError log.now) }
 {
     let mut rest = log;
-    match read_log(alloc, &mut rest, keeps_notes, told) {
+    match read_log(alloc, &mut rest, keeps_notes, details) {
         Ok(whole) => Ok(whole),
         Err(error) => Err(in_memory(error)),
     }

@@ -1,10 +1,15 @@
 //! Answering a log that is read to its end.
 
-ghost use Rattle.std.specs.Prelude.{◌≡◌, ◌≢◌, IfErr, IfOk, string_bytes};
+ghost use Rattle.std.specs.Prelude.{◌≡◌, ◌≢◌, Err, IfErr, IfOk, OnOk, string_bytes};
+ghost use Rattle.std.specs.Io.KnownBytes.{IsAtEnd};
+ghost use Rattle.json_lines.specs.ReadCalls.{IsFurther};
+ghost use Rattle.json_lines.specs.WriteCalls.{FailsToTake, PassesOn};
 ghost use Rattle.log_reader.specs.Logs.{Log};
 ghost use Rattle.app_explanations.specs.Report.{text_for};
 ghost use Rattle.app_engine.specs.Expecting.{outcome_for};
+ghost use Rattle.app_logs.specs.Endings.{WritesAnswerFront};
 ghost use Rattle.app_logs.specs.LogAnswers.{AnswersLog, IsLogAnswer, IsLogError};
+ghost use Rattle.app_logs.specs.ReadCalls.{ReadsWholeBy};
 
 use crate::failure::LogError;
 use crate::following::Followed;
@@ -18,30 +23,38 @@ use app_engine::{
     write_output,
 };
 use app_orders::{LogJudging, LogOrder};
-use json_lines::Source;
+use json_lines::{MAX_WRITE_CALLS, Sink, Source};
 use log_reader::EventReader;
 use std::alloc::Global;
-use std::io::Write;
 use std::sync::Wait;
 use std::thread::Threads;
 
 /// Reads a log to its end, makes the whole answer, and then writes it.
 ///
-/// It writes nothing before the answer is made: after every error except a write fault the writer is unchanged. It appends what is said
-/// of a line that is refused.
-pub(crate) fn answer_log<P: Threads + Wait + Sync + AllocGlobal, R: Source, W: Write>(
+/// It writes nothing before the answer is made: after every error except a write fault the writer is unchanged, and after a write fault it
+/// holds a beginning of the answer. It appends the details of a line that is refused.
+pub(crate) fn answer_log<P: Threads + Wait + Sync + AllocGlobal, R: Source, W: Sink>(
     rt: &P,
     source: &mut R,
     writer: &mut W,
     order: &LogOrder,
-    told: &mut String,
+    details: &mut String,
 ) -> Result<Followed, LogError>
     ensures answered { IfOk result (AnswersLog order.now (R.remaining source.old) (R.remaining source.new)
         (W.contents writer.old) (W.contents writer.new)) }
     ensures error { IfErr result (IsLogError (R.remaining source.old)) }
     ensures unwritten { IfErr result (λ e. e ≢ LogError.WriteFault → writer.new ≡ writer.old) }
+    ensures begun { result ≡ Err LogError.WriteFault
+        → WritesAnswerFront order.now (R.remaining source.old) (W.contents writer.old) (W.contents writer.new) }
+    ensures read_on { IsFurther (R.remaining source.old) (R.remaining source.new) }
+    ensures read_whole { result ≡ Err LogError.WriteFault → IsAtEnd (R.remaining source.new) }
+
+    // Whatever the source and the writer report of their calls.
+    ensures calls { ReadsWholeBy R.called result source.old source.new }
+    ensures passed_on { OnOk result (PassesOn W.called writer.old writer.new) }
+    ensures write_fault { result ≡ Err LogError.WriteFault → FailsToTake W.called MAX_WRITE_CALLS writer.old writer.new }
 {
-    let whole = read_log(rt.alloc(), source, shows_notes(order), told)?;
+    let whole = read_log(rt.alloc(), source, shows_notes(order), details)?;
     let torn = whole.torn;
     let work = WorkerThreads::of(rt, workers_of(order));
     let answer = answer_to(&work, rt.alloc(), whole, order)?;

@@ -90,12 +90,12 @@ pub fn status_of_error(error: &LogError) -> u8
 }
 
 /// The text for standard error after a log that had no answer, with no line feed at the end: if a line was refused, `refused N LINE`
-/// and a second line with what is wrong there, the last of it as it was told; else `read fault`, `write fault` or `no memory`.
-pub fn error_lines(alloc: Global, error: &LogError, told: &str) -> Result<String, AllocError>
-    ensures { IfOk result (λ lines. string_bytes lines ≡ lines_for error.now told.now) }
+/// and a second line with what is wrong there, which ends in these details; else `read fault`, `write fault` or `no memory`.
+pub fn error_lines(alloc: Global, error: &LogError, details: &str) -> Result<String, AllocError>
+    ensures { IfOk result (λ lines. string_bytes lines ≡ lines_for error.now details.now) }
 {
     match error {
-        LogError::Refused(refusal) => lines_of_refusal(alloc, refusal, told),
+        LogError::Refused(refusal) => lines_of_refusal(alloc, refusal, details),
         LogError::Memory => String::from_str(alloc, "no memory"),
         LogError::ReadFault => String::from_str(alloc, "read fault"),
         LogError::WriteFault => String::from_str(alloc, "write fault"),
@@ -103,13 +103,13 @@ pub fn error_lines(alloc: Global, error: &LogError, told: &str) -> Result<String
 }
 
 // The lines on a refused line.
-fn lines_of_refusal(alloc: Global, refusal: &Refusal, told: &str) -> Result<String, AllocError>
-    ensures { IfOk result (λ lines. string_bytes lines ≡ refusal_lines refusal.now told.now) }
+fn lines_of_refusal(alloc: Global, refusal: &Refusal, details: &str) -> Result<String, AllocError>
+    ensures { IfOk result (λ lines. string_bytes lines ≡ refusal_lines refusal.now details.now) }
 {
     let code = refusal.code();
     let line = refusal.line;
     let words = words_of(refusal.reason);
-    format!(in alloc; "refused {code} {line}\nline {line}: {words}{told}")
+    format!(in alloc; "refused {code} {line}\nline {line}: {words}{details}")
 }
 
 // What is wrong with a line.

@@ -1,13 +1,15 @@
 //! The run that a log records, with what answers to it are made of.
 
-ghost use Rattle.std.specs.Prelude.{◌≡◌, IfErr, IfOk, IfSome, OnOk, string_bytes};
+ghost use Rattle.std.specs.Prelude.{◌≡◌, ◌≢◌, IfErr, IfOk, IfSome, OnOk, string_bytes};
 ghost use Rattle.std.specs.Io.KnownBytes.{IsAtEnd};
+ghost use Rattle.json_lines.specs.ReadCalls.{IsFurther};
 ghost use Rattle.log_events.specs.Histories.{history_of};
 ghost use Rattle.log_reader.specs.Logs.{IsLogOf};
 ghost use Rattle.app_explanations.specs.ExplanationTexts.{IsExplainedAs};
 ghost use Rattle.app_explanations.specs.ListTexts.{IsListOf};
 ghost use Rattle.app_logs.specs.LogAnswers.{IsLogAnswer, IsLogError};
 ghost use Rattle.app_logs.specs.LogTexts.{AreCallLines, AreNames};
+ghost use Rattle.app_logs.specs.ReadCalls.{ReadsWholeBy};
 ghost use Rattle.app_logs.specs.Reports.{IsReportOn, any_history_of};
 
 use crate::answering::answer_of_report;
@@ -56,21 +58,28 @@ impl Model for LoggedRun {
 }
 
 impl LoggedRun {
-    /// Reads the log that a source has, with its notes, one event a line. Appends what is said of a line that is refused.
+    /// Reads the log that a source has, with its notes, one event a line.
     ///
-    /// Fails with the first line that is refused, for want of memory, and where the source fails. O(n log n) for n calls and clients, and
-    /// O(n) for n bytes.
+    /// Fails with the first line that is refused, and then appends to `details` what [`error_lines`](crate::error_lines) says of it besides
+    /// its reason; for want of memory; and with a read fault only where a read call failed, or a line did not end in as many calls as are
+    /// made for one. No read call is made after the end or after one that failed. O(n log n) for n calls and clients, and O(n) for n bytes.
     pub fn read<R: Source>(
         alloc: Global,
         source: &mut R,
-        told: &mut String,
+        details: &mut String,
     ) -> Result<LoggedRun, LogError>
         ensures whole { IfOk result (λ run. IfSome (R.remaining source.old) (λ bytes. IsLogOf bytes run.log run.torn)) }
         ensures end { OnOk result (IsAtEnd (R.remaining source.new)) }
         ensures error { IfErr result (IsLogError (R.remaining source.old)) }
+        ensures unwritten { IfErr result (λ e. e ≢ LogError.WriteFault) }
+        ensures read_on { IsFurther (R.remaining source.old) (R.remaining source.new) }
+
+        // Whatever the source reports of its calls.
+        ensures calls { ReadsWholeBy R.called result source.old source.new }
     {
-        let whole = read_log(alloc, source, true, told)?;
-        Ok(LoggedRun::of(alloc, whole)?)
+        let whole = read_log(alloc, source, true, details)?;
+        let run = LoggedRun::of(alloc, whole)?;
+        Ok(run)
     }
 
     /// The run of a log that was read.
@@ -158,7 +167,7 @@ impl LoggedRun {
         Ok(report)
     }
 
-    // The history that the log stands for.
+    // The history that the log represents.
     fn history(&self) -> &LongHistory
         ensures { result.now ≡ history_of self.now.log.events }
     {

@@ -15,11 +15,11 @@ pub(crate) fn tell<T>(
     alloc: Global,
     reader: &EventReader,
     outcome: &Result<T, LogError>,
-    told: &mut String,
+    details: &mut String,
 ) {
     if let Err(LogError::Refused(refusal)) = outcome {
         if let Ok(rest) = rest_for(alloc, reader, refusal.reason) {
-            let _ = told.push_str(&rest);
+            let _ = details.push_str(&rest);
         }
     }
 }

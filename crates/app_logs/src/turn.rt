@@ -1,9 +1,9 @@
 //! One turn of judging a log while it is read: to the next cut, and the line on it.
 
-ghost use Rattle.std.specs.Prelude.{◌≡◌, ◌≢◌, ◌⊎◌, IfErr, IfOk};
-ghost use Rattle.std.specs.Io.KnownBytes.{Appends};
-ghost use Rattle.app_engine.specs.Expecting.{outcome_for};
-ghost use Rattle.app_logs.specs.Reports.{IsReportOn, cut_line};
+ghost use Rattle.std.specs.Prelude.{◌≡◌, ◌≢◌, ◌⊎◌, Err, IfErr, IfOk, OnOk};
+ghost use Rattle.json_lines.specs.WriteCalls.{FailsToTake, PassesOn};
+ghost use Rattle.app_logs.specs.Endings.{WritesLineFront};
+ghost use Rattle.app_logs.specs.Reports.{cut_line};
 ghost use Rattle.app_logs.specs.Steps.Watching.{GoesOnBy, WritesCut};
 
 use crate::failure::LogError;
@@ -11,10 +11,9 @@ use crate::following::Followed;
 use crate::judging::report_on_log;
 use app_engine::{Findings, SessionWork, joined_text, outcome_of, write_output};
 use app_orders::Expected;
-use json_lines::Outcome;
+use json_lines::{MAX_WRITE_CALLS, Outcome, Sink};
 use log_events::EventLog;
 use std::alloc::{AllocError, Global};
-use std::io::Write;
 
 /// What a turn comes to.
 #[derive(Clone, Copy)]
@@ -42,7 +41,7 @@ pub(crate) fn turn_of(outcome: Outcome) -> Turn
 }
 
 /// Judges the log so far, and writes the line on it.
-pub(crate) fn write_cut<K: SessionWork, W: Write>(
+pub(crate) fn write_cut<K: SessionWork, W: Sink>(
     work: &K,
     alloc: Global,
     writer: &mut W,
@@ -53,6 +52,9 @@ pub(crate) fn write_cut<K: SessionWork, W: Write>(
     ensures written { IfOk result (WritesCut expected log.now (W.contents writer.old) (W.contents writer.new)) }
     ensures error { IfErr result (λ e. e ≢ LogError.WriteFault → writer.new ≡ writer.old) }
     ensures refused { IfErr result (λ e. (e ≡ LogError.Memory) ⊎ (e ≡ LogError.WriteFault)) }
+    ensures begun { result ≡ Err LogError.WriteFault → WritesLineFront log.now (W.contents writer.old) (W.contents writer.new) }
+    ensures passed_on { OnOk result (PassesOn W.called writer.old writer.new) }
+    ensures write_fault { result ≡ Err LogError.WriteFault → FailsToTake W.called MAX_WRITE_CALLS writer.old writer.new }
 {
     let report = report_on_log(work, alloc, log)?;
     let line = line_of_cut(alloc, log.events(), &report);

@@ -10,6 +10,7 @@ use Rattle.app_engine.specs.Expecting.{outcome_for}
 use Rattle.log_reader.specs.Readings.{HasRead, Reading}
 use Rattle.app_logs.specs.declared.turn.Turn.{Turn}
 use Rattle.app_logs.specs.declared.turn.Turn.TheVariants.{On, Stopped, Ended}
+use Rattle.app_logs.specs.Endings.{WritesLineFront}
 use Rattle.app_logs.specs.LogAnswers.{WatchesLog, WritesCutsUpTo}
 use Rattle.app_logs.specs.Reports.{AreCutLines, IsReportOn, cut_line, multiples}
 
@@ -31,6 +32,10 @@ abbrev pub WritesLast : Expected → List Event → ℕ → Option (List ℕ) �
 WritesLast expected events judged before after outcome =
     KeepsLast events judged before after outcome
     ⊎ (((length events ≢ judged) ⊎ (judged ≡ 0)) × WritesCut expected events before after outcome)
+
+-- a beginning of that line was written
+abbrev pub BeginsLast : List Event → ℕ → Option (List ℕ) → Option (List ℕ) → Type 0
+BeginsLast events judged before after = ((length events ≢ judged) ⊎ (judged ≡ 0)) × WritesLineFront events before after
 
 -- the judging goes on after a cut where what was expected came of it, and else stops there
 abbrev pub GoesOnBy : Outcome → Turn → Type 0
