@@ -1,3 +1,4 @@
 pub mod Failure
 pub mod Writing
+pub mod Endings
 pub mod Steps

@@ -31,17 +31,17 @@ pub fn input_page_alone(
 
 /// The page that [`page_of_log`](crate::page_of_log) writes of this log. It starts no thread.
 ///
-/// Refuses what that refuses, and then appends what it appends; or fails for want of memory, at the cost of that.
+/// Refuses what that refuses, and then appends to `details` what it appends; or fails for want of memory, at the cost of that.
 pub fn log_page_alone(
     alloc: Global,
     log: &[u8],
     most: u32,
-    told: &mut String,
+    details: &mut String,
 ) -> Result<LogPage, PageError>
     ensures within { OnOk result (length_of log.now ≤ MAX_INPUT_BYTES) }
     ensures page { IfOk result (λ page. IsPageOfLog most page.torn log.now page.bytes.items) }
     ensures failed { IfErr result (FailsToWrite most (Some log.now)) }
 {
     stay_within(log, Length::Limited)?;
-    Ok(page_of_bytes(&CallingThread, alloc, log, most, told)?)
+    Ok(page_of_bytes(&CallingThread, alloc, log, most, details)?)
 }

@@ -3,8 +3,12 @@
 ghost use Rattle.std.specs.Prelude.{ℕ, List, ◌≡◌, ◌≢◌, ◌⊎◌, Err, IfErr, IfOk, IfSome, OnOk, string_bytes};
 ghost use Rattle.std.specs.Io.KnownBytes.{IsAtEnd};
 ghost use Rattle.app_engine.specs.Failure.{failure_status};
-ghost use Rattle.app_engine.specs.InputLengths.{CallsFor, FindsNoEndFor, most_bytes};
-ghost use Rattle.app_engine.specs.Running.{Fails, IsOutput, IsOutputError};
+ghost use Rattle.json_lines.specs.ReadCalls.{IsEnd, IsFurther};
+ghost use Rattle.json_lines.specs.WriteCalls.{FailsToTake, PassesOn};
+ghost use Rattle.app_engine.specs.Endings.{ReadWhole};
+ghost use Rattle.app_engine.specs.InputLengths.{CallsFor, EndsFor, FindsNoEndFor, most_bytes};
+ghost use Rattle.app_engine.specs.Running.{Fails, IsOfInput, IsOutput, IsOutputError};
+ghost use Rattle.app_pages.specs.Endings.{WritesPageFront};
 ghost use Rattle.app_pages.specs.Writing.{IsPageOfInput, IsSaidOfInput, WritesPage, WritesPageOf};
 ghost use Rattle.app_pages.specs.Writing.{list_order, listing_order, picture_order, words_order};
 
@@ -14,10 +18,9 @@ use app_engine::{
     explain_long, list_faults, read_input_for, write_output,
 };
 use app_orders::{Form, Length, ListForm, Listing, LongForm};
-use json_lines::Source;
+use json_lines::{MAX_WRITE_CALLS, Sink, Source};
 use show_page::{MOST_SAID, PageTexts, page_of, said_of};
 use std::alloc::{AllocError, Global};
-use std::io::Write;
 use std::sync::Wait;
 use std::thread::Threads;
 
@@ -25,10 +28,13 @@ use std::thread::Threads;
 /// with what `explain` says of the input in words, as a list and as a picture.
 ///
 /// At most `most` faults are listed, of a history that may be of that length. The input is kept for the caller, who may say what is wrong
-/// with it; where it is too long or could not be read, what was kept before stays. Nothing is written before the page is made: after every
-/// error but a write fault the writer is as it was. No contract says how much was written before a write fault, or how much was read
-/// before an error. O(n log n) for an input of n bytes, and what [`run`](engine::run) takes for two lists, the words and the picture.
-pub fn page_of_input<P: Threads + Wait + Sync + AllocGlobal, R: Source, W: Write>(
+/// with it; where it is too long or could not be read, what was kept before stays.
+///
+/// Nothing is written before the page is made: after every error but a write fault the writer is as it was, and after a write fault it
+/// holds a beginning of the page. A write fault comes only where a write call failed, and a read fault only where a read call did, or as
+/// many were made as [`read_input_for`](app_engine::read_input_for) makes. No read call is made after the end or after one that failed.
+/// O(n log n) for an input of n bytes, and what [`run`](app_engine::run) takes for two lists, the words and the picture.
+pub fn page_of_input<P: Threads + Wait + Sync + AllocGlobal, R: Source, W: Sink>(
     rt: &P,
     reader: &mut R,
     writer: &mut W,
@@ -50,16 +56,29 @@ pub fn page_of_input<P: Threads + Wait + Sync + AllocGlobal, R: Source, W: Write
         → IsOutputError (listing_order most length) input.new.items e) }
     ensures unread { IfErr result (λ e. (e ≡ RunError.TooLong) ⊎ (e ≡ RunError.ReadFault) → input.new ≡ input.old) }
 
+    ensures read_on { IsFurther (R.remaining reader.old) (R.remaining reader.new) }
+    ensures read_whole { ReadWhole result (IsAtEnd (R.remaining reader.new)) }
+    ensures begun { result ≡ Err RunError.WriteFault → IsOfInput (most_bytes length) (R.remaining reader.old)
+        (λ input. WritesPageFront (IsPageOfInput most length) input (W.contents writer.old) (W.contents writer.new)) }
+    ensures begun_kept { result ≡ Err RunError.WriteFault
+        → WritesPageFront (IsPageOfInput most length) input.new.items (W.contents writer.old) (W.contents writer.new) }
+
+    // Whatever the reader and the writer report of their calls.
     ensures calls { CallsFor R.called length MAX_READ_CALLS reader.old reader.new }
+    ensures end_found { ReadWhole result (EndsFor R.called length MAX_READ_CALLS IsEnd reader.old reader.new) }
     ensures fault { result ≡ Err RunError.ReadFault → FindsNoEndFor R.called length MAX_READ_CALLS reader.old reader.new }
+    ensures passed_on { OnOk result (PassesOn W.called writer.old writer.new) }
+    ensures write_fault { result ≡ Err RunError.WriteFault → FailsToTake W.called MAX_WRITE_CALLS writer.old writer.new }
 {
     *input = read_input_for(rt.alloc(), reader, length)?;
     let work = WorkerThreads::of(rt, Workers::usual());
     let page = page_of_text(&work, rt.alloc(), input.as_slice(), most, length)?;
-    write_output(writer, page.as_slice())
+    write_output(writer, page.as_slice())?;
+    Ok(())
 }
 
-/// The page of an input in memory, whose history may be of that length. `work` checks the pieces of certificates, or goes over the sessions.
+/// The page of an input in memory, whose history may be of that length. `work` checks the pieces of certificates, or goes over the
+/// sessions.
 ///
 /// Refuses what is no such history, and fails for want of memory.
 #[tactic(auto, using(crate::proofs::Joined::output_makes_page))]

@@ -2,9 +2,12 @@
 
 ghost use Rattle.std.specs.Prelude.{◌≡◌, ◌≢◌, Err, IfErr, IfOk, OnOk, string_bytes};
 ghost use Rattle.std.specs.Io.KnownBytes.{IsAtEnd};
-ghost use Rattle.json_lines.specs.ReadCalls.{CallsAtMost, FindsNoEnd};
+ghost use Rattle.json_lines.specs.ReadCalls.{CallsAtMost, EndsBy, FindsNoEnd, IsEnd, IsFurther};
+ghost use Rattle.json_lines.specs.WriteCalls.{FailsToTake, PassesOn};
+ghost use Rattle.app_engine.specs.Running.{IsOfInput};
 ghost use Rattle.app_engine.specs.declared.input.TheConstants.{MAX_INPUT_BYTES};
 ghost use Rattle.app_logs.specs.Alone.{IsMemoryError};
+ghost use Rattle.app_pages.specs.Endings.{IsSomePageOfLog, ReadLogWhole, WritesPageFront};
 ghost use Rattle.app_pages.specs.Writing.{FailsToWrite, IsPageOf, IsPageOfLog, IsSaidOfLog, WritesPage};
 ghost use Rattle.app_pages.specs.Steps.Answers.{IsAnswerTo};
 
@@ -15,10 +18,9 @@ use app_engine::{
 };
 use app_logs::{Followed, LogError, LoggedRun, run_in_memory};
 use app_orders::{ListForm, LogOrder, LongForm};
-use json_lines::{Outcome, Source};
+use json_lines::{MAX_WRITE_CALLS, Outcome, Sink, Source};
 use show_page::{MOST_SAID, PageTexts, page_of, said_of};
 use std::alloc::Global;
-use std::io::Write;
 use std::sync::Wait;
 use std::thread::Threads;
 
@@ -26,16 +28,21 @@ use std::thread::Threads;
 /// says of the log in words, as a list and as a picture.
 ///
 /// At most `most` faults are listed. A log is refused if it has more bytes than an input may have, or if one of its lines is refused. A
-/// last line that is not whole is passed over, and the result says so. What is told of a line that is refused is appended to `told`.
-/// Nothing is written before the page is made: after every error but a write fault the writer is as it was. The log is held in memory and
-/// read once: O(n (k + log n)) for a history of n operations in k sessions, and the cost of reading. It is tested, not proved, that the
-/// notes, and the second lines of calls whose ends have one, are those of the log.
-pub fn page_of_log<P: Threads + Wait + Sync + AllocGlobal, R: Source, W: Write>(
+/// last line that is not whole is passed over, and the result says so. The details of a line that is refused, which
+/// [`error_lines`](app_logs::error_lines) says after its reason, are appended to `details`.
+///
+/// Nothing is written before the page is made: after every error but a write fault the writer is as it was, and after a write fault it
+/// holds a beginning of the page. A write fault comes only where a write call failed, and a read fault only where a read call did, or
+/// [`MAX_READ_CALLS`] were made. No read call is made after the end or after one that failed.
+///
+/// The log is held in memory and read once: O(n (k + log n)) for a history of n operations in k sessions, and the cost of reading. It is
+/// tested, not proved, that the notes, and the second lines of calls whose ends have one, are those of the log.
+pub fn page_of_log<P: Threads + Wait + Sync + AllocGlobal, R: Source, W: Sink>(
     rt: &P,
     reader: &mut R,
     writer: &mut W,
     most: u32,
-    told: &mut String,
+    details: &mut String,
 ) -> Result<Followed, PageError>
     ensures written { IfOk result (λ followed. WritesPage MAX_INPUT_BYTES (IsPageOfLog most followed.torn) (R.remaining reader.old)
         (W.contents writer.old) (W.contents writer.new)) }
@@ -45,13 +52,23 @@ pub fn page_of_log<P: Threads + Wait + Sync + AllocGlobal, R: Source, W: Write>(
     ensures failed { IfErr result (FailsToWrite most (R.remaining reader.old)) }
     ensures unwritten { IfErr result (λ e. e ≢ PageError.Log LogError.WriteFault → writer.new ≡ writer.old) }
 
+    ensures read_on { IsFurther (R.remaining reader.old) (R.remaining reader.new) }
+    ensures read_whole { ReadLogWhole result (IsAtEnd (R.remaining reader.new)) }
+    ensures begun { result ≡ Err (PageError.Log LogError.WriteFault) → IsOfInput MAX_INPUT_BYTES (R.remaining reader.old)
+        (λ bytes. WritesPageFront (IsSomePageOfLog most) bytes (W.contents writer.old) (W.contents writer.new)) }
+
+    // Whatever the reader and the writer report of their calls.
     ensures calls { CallsAtMost R.called MAX_READ_CALLS reader.old reader.new }
+    ensures end_found { ReadLogWhole result (EndsBy R.called MAX_READ_CALLS IsEnd reader.old reader.new) }
     ensures fault { result ≡ Err (PageError.Log LogError.ReadFault)
         → FindsNoEnd R.called MAX_READ_CALLS reader.old reader.new }
+    ensures passed_on { OnOk result (PassesOn W.called writer.old writer.new) }
+    ensures write_fault { result ≡ Err (PageError.Log LogError.WriteFault)
+        → FailsToTake W.called MAX_WRITE_CALLS writer.old writer.new }
 {
     let log = read_input(rt.alloc(), reader)?;
     let work = WorkerThreads::of(rt, Workers::usual());
-    let page = page_of_bytes(&work, rt.alloc(), log.as_slice(), most, told)?;
+    let page = page_of_bytes(&work, rt.alloc(), log.as_slice(), most, details)?;
     write_output(writer, page.bytes.as_slice())?;
     Ok(Followed {
         outcome: Outcome::Met,
@@ -71,20 +88,20 @@ pub struct LogPage {
 
 /// The page of a log in memory. `work` checks the pieces of certificates, or goes over the sessions.
 ///
-/// Fails with the first line that is refused, or for want of memory.
+/// Fails with the first line that is refused, and then appends its details; or for want of memory.
 pub(crate) fn page_of_bytes<W: PieceWork + SessionWork>(
     work: &W,
     alloc: Global,
     log: &[u8],
     most: u32,
-    told: &mut String,
+    details: &mut String,
 ) -> Result<LogPage, LogError>
     requires can_check { W.can_check work.now }
     requires can_work { W.can_work work.now }
     ensures page { IfOk result (λ page. IsPageOfLog most page.torn log.now page.bytes.items) }
     ensures error { IfErr result (IsMemoryError log.now) }
 {
-    let run = run_in_memory(alloc, log, told)?;
+    let run = run_in_memory(alloc, log, details)?;
     let torn = run.torn();
     let bytes = page_of_run(work, alloc, &run, most);
     drop(run);
