@@ -15,3 +15,11 @@ pub mod ChosenReads
 pub mod ChosenEffects
 pub mod ChosenAnswers
 pub mod ExampleChoices
+pub mod ClientRows
+pub mod MissedKeys
+pub mod SeenPairs
+pub mod ForkPlaces
+pub mod ChosenHistoriesKept
+pub mod ChosenCallsLaws
+pub mod ChosenOriginsLaws
+pub mod LeftOutKeys

@@ -4,3 +4,7 @@ pub mod ChosenCriteria
 pub mod Forced
 pub mod TimedLogs
 pub mod Effects
+pub mod ChoiceTables
+pub mod ChosenOrigins
+pub mod ChosenLeftOut
+pub mod Steps

@@ -6,4 +6,18 @@
 //! pattern_check.
 #![tactic(auto)]
 
+mod chosen_calls;
+mod chosen_history;
+mod client_calls;
+mod entries;
 pub mod laws;
+mod left_out;
+mod lost_calls;
+mod null_reads;
+mod origins;
+mod seen;
+mod sessions;
+
+pub use chosen_history::{history_by, no_choice_leaves_null_reads_out, origins_by};
+pub use left_out::left_out_by;
+pub use seen::Seen;

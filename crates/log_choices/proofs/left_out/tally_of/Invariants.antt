@@ -1,0 +1,7 @@
+use Rattle.std.proofs.Common.{take}
+use Rattle.log_events.specs.Steps.Tallies.{IsTally}
+use Rattle.log_choices.proofs.left_out.tally_of.Given as goal
+
+-- the keys so far are listed
+abbrev pub invariant-loop-place : goal.invariant-loop-place
+invariant-loop-place l = IsTally l.listed (take l.place l.keys) l.found.items
