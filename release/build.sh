@@ -76,7 +76,8 @@ DOUBT=$(doubt)
 if [ -n "$DOUBT" ] && [ -z "$UNPROVED" ]; then
     fail "$DOUBT. --unproved makes packages that say so"
 fi
-if [ "$SAID" != "causal_judge $VERSION ($KIT)" ] && { [ -n "$KIT" ] || [ -z "$UNPROVED" ]; }; then
+# (of an unproved program nothing is claimed, so it may name another kit than that of this machine)
+if [ "$SAID" != "causal_judge $VERSION ($KIT)" ] && [[ -z "$UNPROVED" || "$SAID" != "causal_judge $VERSION ("* ]]; then
     fail "VERSION says $VERSION and the kit is ${KIT:-unknown}, and the program says $SAID"
 fi
 if [ -n "$UNPROVED" ]; then
