@@ -199,13 +199,20 @@ def held_cases(window, counting):
 
 
 def look_cases(window, room, name):
-    """Narrow and wide screens."""
-    for width, height in ((1280, 900), (700, 900), (390, 844), (320, 640)):
+    """Narrow and wide screens: nothing is cut, and an answer is in sight."""
+    sizes = ((1280, 900), (700, 900), (390, 844), (320, 640))
+    for width, height in sizes:
         window.size(width, height)
         time.sleep(0.3)
         fits = window.run("document.documentElement.scrollWidth <= window.innerWidth")
         window.picture(room / f"judge_page-{name}-{width}.png")
         yield f"nothing is cut at {width} pixels", fits
+    for width, height in sizes:
+        window.size(width, height)
+        window.run("window.scrollTo(0, 0)")
+        is_well = given(window, BAD_LOG)
+        top, bottom, low = window.run("(it => [it.top, it.bottom, innerHeight])(document.getElementById('result').getBoundingClientRect())")
+        yield f"a refusal is in sight at {width} pixels: {top} to {bottom} of {low}", is_well and top > -1 and bottom < low + 1
     window.size(1280, 900)
 
 
