@@ -25,17 +25,12 @@ export LC_ALL=C TZ=UTC
 umask 022
 
 HERE=$(cd "$(dirname "$0")" && pwd)
-ROOT=$(dirname "$HERE")
+# shellcheck source=release/gate.sh
+. "$HERE/gate.sh"
 OUT=$HERE/out
 PROGRAM=$ROOT/crates/causal_judge/out/causal_judge
 LIBRARY=$ROOT/crates/causal_judge_library/out/libcausal_judge_library.a
-MARK=$ROOT/out/gate
 UNPROVED='' NO_LIBRARY='' IS_OTHER='' WASM='' NO_WASM='' ARM64='' NO_ARM64=''
-
-fail() {
-    echo "release/build.sh: $*" >&2
-    exit 1
-}
 
 while [ $# -gt 0 ]; do
     case $1 in
@@ -54,34 +49,23 @@ while [ $# -gt 0 ]; do
 done
 
 [ -z "$IS_OTHER" ] || [ -n "$UNPROVED" ] || fail "$IS_OTHER goes with --unproved alone"
-for tool in git python3 dpkg-deb help2man gzip readelf; do
-    command -v "$tool" > /dev/null || fail "$tool is missing: apt-get install git python3 dpkg help2man gzip binutils"
-done
+want "apt-get install git python3 dpkg help2man gzip binutils" git python3 dpkg-deb help2man gzip readelf
 [ -x "$PROGRAM" ] || fail "$PROGRAM is missing: ./check leaves it"
 if [ -z "$NO_LIBRARY" ] && [ ! -f "$LIBRARY" ]; then
     fail "$LIBRARY is missing: ./check --library builds it, which takes about an hour more; --no-library leaves it out"
 fi
 
-VERSION=$(cat "$ROOT/VERSION")
-COMMIT=$(git -C "$ROOT" rev-parse HEAD)
 SOURCE_DATE_EPOCH=$(git -C "$ROOT" log -1 --format=%ct)
 export SOURCE_DATE_EPOCH
-CHANGED=$(git -C "$ROOT" status --porcelain)
 SAID=$("$PROGRAM" --version | sed -n 1p)
-KIT=$(sed -n 's/^kit //p' "$MARK" 2> /dev/null || true)
-if [ -n "$UNPROVED" ] && command -v rt > /dev/null; then
-    KIT=$(cat "$(dirname "$(rt doc | awk 'END { print $NF }')")/KIT-ID")
-fi
-
-# A line of the mark, without its first word.
-marked() { sed -n "s/^$1 //p" "$MARK" 2> /dev/null || true; }
-sum() { sha256sum "$1" | cut -d ' ' -f 1; }
+KIT=$(marked kit)
+if [ -n "$UNPROVED" ] && command -v rt > /dev/null; then KIT=$(kit_here); fi
 
 # What the mark lacks, if anything.
 doubt() {
-    if [ ! -f "$MARK" ]; then echo "no mark out/gate: the whole gate has not passed"
-    elif [ -n "$CHANGED" ]; then echo "files differ from the commit"
-    elif [ "$(marked commit)" != "$COMMIT" ]; then echo "the gate passed at $(marked commit), and this is $COMMIT"
+    local doubt
+    doubt=$(doubt_of_commit)
+    if [ -n "$doubt" ]; then echo "$doubt"
     elif [ "$(marked program)" != "$(sum "$PROGRAM")" ]; then echo "the program is not the one that the gate left"
     elif [ -z "$NO_LIBRARY" ] && [ "$(marked library)" != "$(sum "$LIBRARY")" ]; then
         echo "the library is not one that the gate left: ./check --library"
@@ -92,7 +76,8 @@ DOUBT=$(doubt)
 if [ -n "$DOUBT" ] && [ -z "$UNPROVED" ]; then
     fail "$DOUBT. --unproved makes packages that say so"
 fi
-if [ "$SAID" != "causal_judge $VERSION ($KIT)" ] && { [ -n "$KIT" ] || [ -z "$UNPROVED" ]; }; then
+# (of an unproved program nothing is claimed, so it may name another kit than that of this machine)
+if [ "$SAID" != "causal_judge $VERSION ($KIT)" ] && [[ -z "$UNPROVED" || "$SAID" != "causal_judge $VERSION ("* ]]; then
     fail "VERSION says $VERSION and the kit is ${KIT:-unknown}, and the program says $SAID"
 fi
 if [ -n "$UNPROVED" ]; then
@@ -113,7 +98,7 @@ rm -f "$OUT"/causal_judge-*.tar.gz "$OUT"/causal-judge_*.deb "$OUT"/causal_judge
 # One archive of the library with the one C function file that it takes memory by, and a shared object of it.
 join_library() {
     local kit room=$ROOM/objects
-    kit=$(dirname "$(rt doc | awk 'END { print $NF }')")
+    kit=$(kit_folder)
     [ -f "$kit/c/liblibc_c.a" ] || fail "the Rattle kit is missing: the library takes memory by its liblibc_c.a"
     mkdir "$room"
     (cd "$room" && ar x "$(realpath "$LIBRARY")" && ar x "$kit/c/liblibc_c.a" heap.pic.o)
@@ -186,14 +171,7 @@ fi
 BUILT_FOR_ARM64="proved code, compiled by one compiler, with C functions of its own; the gate ran none of it"
 BUILT_AS_MODULE="proved code, compiled by a route that no proof covers, and compared with the library by tests"
 {
-    echo "version $VERSION"
-    echo "commit $COMMIT${CHANGED:+, with files that differ from it}"
-    echo "kit ${KIT:-unknown}"
-    if [ -n "$UNPROVED" ]; then
-        echo "gate UNPROVED: nothing is claimed of this build"
-    else
-        echo "gate passed at this commit: $(marked gate)"
-    fi
+    build_head "${KIT:-unknown}" "$UNPROVED"
     echo "program sha256 $(sum "$PROGRAM")"
     if [ -n "$NO_LIBRARY" ]; then
         echo "library none: left out by --no-library"

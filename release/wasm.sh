@@ -17,13 +17,9 @@ export LC_ALL=C TZ=UTC
 umask 022
 
 HERE=$(cd "$(dirname "$0")" && pwd)
-ROOT=$(dirname "$HERE")
 OUT=$HERE/out/wasm MODULE='' UNPROVED=''
-
-fail() {
-    echo "release/wasm.sh: $*" >&2
-    exit 1
-}
+# shellcheck source=release/gate.sh
+. "$HERE/gate.sh"
 
 while [ $# -gt 0 ]; do
     case $1 in
@@ -35,27 +31,10 @@ while [ $# -gt 0 ]; do
     shift
 done
 [ -z "$MODULE" ] || [ -n "$UNPROVED" ] || fail "--module goes with --unproved alone"
-for tool in git python3 wasm-opt rt; do
-    command -v "$tool" > /dev/null || fail "$tool is missing: apt-get install git python3 binaryen, and the Rattle kit"
-done
-
-VERSION=$(cat "$ROOT/VERSION")
-COMMIT=$(git -C "$ROOT" rev-parse HEAD)
-CHANGED=$(git -C "$ROOT" status --porcelain)
-KIT=$(cat "$(dirname "$(rt doc | awk 'END { print $NF }')")/KIT-ID")
-MARK=$ROOT/out/gate
-marked() { sed -n "s/^$1 //p" "$MARK" 2> /dev/null || true; }
-
-# What the mark lacks, if anything.
-doubt() {
-    if [ ! -f "$MARK" ]; then echo "no mark out/gate: the whole gate has not passed"
-    elif [ -n "$CHANGED" ]; then echo "files differ from the commit"
-    elif [ "$(marked commit)" != "$COMMIT" ]; then echo "the gate passed at $(marked commit), and this is $COMMIT"
-    elif [ "$(marked kit)" != "$KIT" ]; then echo "the gate passed with the kit $(marked kit), and this is $KIT"
-    fi
-}
-
-DOUBT=$(doubt)
+want "apt-get install git python3 binaryen, and the Rattle kit" git python3 wasm-opt rt
+KIT=$(kit_here)
+DOUBT=$(doubt_of_commit)
+if [ -z "$DOUBT" ] && [ "$(marked kit)" != "$KIT" ]; then DOUBT="the gate passed with the kit $(marked kit), and this is $KIT"; fi
 [ -z "$DOUBT" ] || [ -n "$UNPROVED" ] || fail "$DOUBT. --unproved makes a module that says so"
 
 ROOM=$(mktemp -d)
@@ -81,16 +60,8 @@ compiled to WebAssembly by a route of its own, which no proof covers. Tests comp
 [ -z "$UNPROVED" ] || WORDS="UNPROVED: nothing is claimed of the judge in this page, causal_judge $VERSION ($KIT, commit $COMMIT)."
 python3 "$HERE/page.py" "$OUT/causal_judge.wasm" "$OUT/causal_judge.html" --about "$WORDS"
 
-sum() { sha256sum "$1" | cut -d ' ' -f 1; }
 {
-    echo "version $VERSION"
-    echo "commit $COMMIT${CHANGED:+, with files that differ from it}"
-    echo "kit $KIT"
-    if [ -n "$UNPROVED" ]; then
-        echo "gate UNPROVED: nothing is claimed of this build"
-    else
-        echo "gate passed at this commit: $(marked gate)"
-    fi
+    build_head "$KIT" "$UNPROVED"
     echo "library $PROOF"
     echo "causal_judge.wasm sha256 $(sum "$OUT/causal_judge.wasm")"
     ROUTE="Rattle's LLVM module, clang for wasm64, memory in C, $(wasm-opt --version)"

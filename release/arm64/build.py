@@ -32,8 +32,9 @@ import sys
 import tempfile
 
 HERE = pathlib.Path(__file__).resolve().parent
-ROOT = HERE.parents[1]
-CRATES = ROOT / "crates"
+sys.path.insert(0, str(HERE.parent))
+from proved import CRATES, ROOT, crates_below, crates_listed, kit_folder, library_of, words_for  # noqa: E402
+
 TARGET = "aarch64-unknown-linux-gnu"
 INSTALLS = "apt-get install libc6-arm64-cross libc6-dev-arm64-cross libgcc-12-dev-arm64-cross"
 C_LIBRARY = pathlib.Path("/usr/aarch64-linux-gnu")
@@ -55,13 +56,6 @@ def run(words, folder):
     if done.returncode != 0:
         sys.exit(f"{done.stdout}{done.stderr}\n{words[0]}: status {done.returncode}, in {folder}")
     return done.stdout + done.stderr
-
-
-def kit_folder():
-    """The folder of the Rattle kit."""
-    if not shutil.which("rt"):
-        sys.exit("rt is missing: the Rattle kit has it")
-    return pathlib.Path(run(["rt", "doc"], ROOT).split()[-1]).parent
 
 
 def compiler_libraries():
@@ -106,56 +100,20 @@ def join_library(kit, toolchain, made, function, out):
         run([kit / "toolchain" / "bin" / "ld.lld", *LINKED_SHARED, "-o", out / SHARED, *objects, *libraries], room)
 
 
-def lists_of(text):
-    """For each crate of crates.txt what it stands on, by its own words."""
-    lines = [line.split("#")[0] for line in text.splitlines()]
-    heads = [line.partition(":") for line in lines if ":" in line]
-    return {head.split()[0]: below.split() for head, _, below in heads}
-
-
-def below(name, lists):
-    """The crates of the repository that one stands on, each once."""
-    found = []
-    for lower in lists[name]:
-        if lower in lists:
-            found += [other for other in [*below(lower, lists), lower] if other not in found]
-    return found
-
-
-def rlib(name):
-    """Where `rt` keeps a library that is proved."""
-    return CRATES / name / "out" / "rlib" / f"{name}.rlib"
-
-
-def words_for(name, lists, kit):
-    """The words that `rattle build` takes for a crate."""
-    root = next(path for path in ("src/main.rt", "src/lib.rt") if (CRATES / name / path).is_file())
-    words = ["--crate-name", name, root]
-    for lower in ["std", *lists[name]]:
-        words += ["--extern", f"{lower}={rlib(lower) if lower in lists else kit / 'rlibs' / f'{lower}.rlib'}"]
-    for folder in [kit / "rlibs", *(rlib(lower).parent for lower in below(name, lists))]:
-        words += ["-L", f"dependency={folder}"]
-    words += ["--antt-project", kit / "rattle" / "logic" / "antt-project.json", "--logic-built", kit / "logic_built"]
-    return words + (["--crate-type", "staticlib"] if root == "src/lib.rt" else [])
-
-
-def build(name, lists, kit, toolchain, to):
+def build(name, listed, kit, toolchain, to):
     """Proves a top crate for arm64 and compiles it. Returns the line that says what was proved."""
-    lacking = [lower for lower in below(name, lists) if not rlib(lower).is_dir()]
-    if lacking:
-        sys.exit(f"{name}: no proved library {', '.join(lacking)}: ./check leaves them")
-    words = [kit / "bin" / "rattle", "build", *words_for(name, lists, kit), "--target", TARGET, "--toolchain", toolchain, "-o", to]
-    said = run(words, CRATES / name)
+    words = [kit / "bin" / "rattle", "build", *words_for(name, listed, kit), "--logic-built", kit / "logic_built"]
+    said = run([*words, "--target", TARGET, "--toolchain", toolchain, "-o", to], CRATES / name)
     proved = re.findall(r"^logic=proved .*", said, re.M)
     if not proved or any(word in proved[-1] for word in LESS):
         sys.exit(f"{said}\n{name}: nothing says that it is proved as the gate asks")
     return re.sub(r" threads=\S*", "", proved[-1])
 
 
-def makers(lists):
+def makers(listed):
     """Who made the libraries: `rt check` and `rt lib` leave a stamp beside each of theirs, and the gate leaves none."""
-    names = {lower for top in ("causal_judge", "causal_judge_library") for lower in below(top, lists)}
-    stamped = sorted(name for name in names if (rlib(name).parent / "stamp").is_file())
+    names = {lower for top in ("causal_judge", "causal_judge_library") for lower in crates_below(top, listed)}
+    stamped = sorted(name for name in names if (library_of(name).parent / "stamp").is_file())
     return f"of rt check: {' '.join(stamped)}" if stamped else "of the gate"
 
 
@@ -181,7 +139,7 @@ def main():
     with tempfile.TemporaryDirectory(prefix="arm64-") as room:
         proved = build_all(kit, pathlib.Path(room), out)
     lines = [f"commit {commit()}", f"kit {(kit / 'KIT-ID').read_text().strip()}"]
-    lines.append(f"libraries {makers(lists_of((ROOT / 'crates.txt').read_text()))}")
+    lines.append(f"libraries {makers(crates_listed())}")
     lines += [f"proved {name} {line}" for name, line in proved.items()]
     lines += [f"{name} sha256 {hashlib.sha256((out / name).read_bytes()).hexdigest()}" for name in (PROGRAM, ARCHIVE, SHARED)]
     (out / "BUILD").write_text("\n".join(lines) + "\n")
@@ -189,12 +147,12 @@ def main():
 
 def build_all(kit, room, out):
     """Builds the program and the library, and returns what was proved of each."""
-    lists, toolchain = lists_of((ROOT / "crates.txt").read_text()), room / "toolchain"
+    listed, toolchain = crates_listed(), room / "toolchain"
     make_toolchain(kit, toolchain)
     for name in FUNCTIONS:
         compile_function(kit, HERE / f"{name}.c", room / f"{name}.o")
     crates = {"causal_judge": room / "program.o", "causal_judge_library": room / "library.a"}
-    proved = {name: build(name, lists, kit, toolchain, to) for name, to in crates.items()}
+    proved = {name: build(name, listed, kit, toolchain, to) for name, to in crates.items()}
     link(kit, toolchain, out / PROGRAM, room / "program.o", room / "process.o", room / "heap.o")
     join_library(kit, toolchain, room / "library.a", room / "heap.o", out)
     return proved

@@ -127,7 +127,7 @@ function stop() {
     return;
   }
   title('Stopped');
-  $('result-title').focus();
+  bringIn();
 }
 
 // ---- What the worker says.
@@ -151,6 +151,12 @@ function title(text) {
   $('given').textContent = now.form
     ? `${now.name}: ${FORMS[now.form]}, ${now.form === 'log' ? `${counted(now.lines, 'line')}, ` : ''}${ofBytes(now.bytes)}` : now.name ?? '';
   $('live').textContent = text;
+}
+
+// Shows the answer to a reader whose screen it lies below, and to one who hears the page.
+function bringIn() {
+  $('result-title').focus({preventScroll: true});
+  $('result').scrollIntoView({block: 'nearest'});
 }
 
 function note(text) {
@@ -182,7 +188,7 @@ function showVerdict({verdict, seconds}) {
   $('saves').hidden = false;
   $('save-page').disabled = true;
   $('save-json').disabled = true;
-  $('result-title').focus();
+  bringIn();
 }
 
 function showPage(page) {
@@ -213,7 +219,7 @@ function showRefusal({words, lines, said}) {
   $('refused-lines').replaceChildren(...lines.map(({number, isAt, text}) =>
     element('span', `${isAt ? '\u2192' : ' '} ${String(number).padStart(4)}  ${text}\n`, isAt ? 'at' : '')));
   $('refused-program').textContent = `The program says: ${said.split('\n')[0]}`;
-  $('result-title').focus();
+  bringIn();
 }
 
 function noMemory() {

@@ -17,47 +17,11 @@ import subprocess
 import sys
 import tempfile
 
-ROOT = pathlib.Path(__file__).resolve().parents[2]
-ROW = re.compile(r"([\w-]+)(?: +\w+(?:=\S+)?)* *(?::(.*))?")
+sys.path.insert(0, str(pathlib.Path(__file__).resolve().parents[1]))
+from proved import CRATES, crates_listed, kit_folder, words_for  # noqa: E402
+
 TRUSTED = r"logic-built=trusted libraries-built=trusted statements=trusted"
 VERDICT = re.compile(rf"^logic=proved functions=\d+ axioms=\d+ target=\S+ sum=\S+ native=\S+ {TRUSTED}$")
-
-
-def kit():
-    """The folder of the kit."""
-    page = subprocess.run(["rt", "doc"], check=True, capture_output=True, text=True).stdout.split()[-1]
-    return pathlib.Path(page).parent
-
-
-def uses():
-    """What each crate of crates.txt uses."""
-    rows = [line.partition("#")[0].strip() for line in (ROOT / "crates.txt").read_text().splitlines()]
-    found = [ROW.fullmatch(row) for row in rows if row]
-    return {row[1]: (row[2] or "").split() for row in found}
-
-
-def below(name, of):
-    """The repository's crates below one."""
-    found = []
-    for it in of[name]:
-        if it in of:
-            found += [one for one in [*below(it, of), it] if one not in found]
-    return found
-
-
-def words(name, at):
-    """The words that name the crate, its libraries and the processor."""
-    of, rlib = uses(), lambda it: ROOT / "crates" / it / "out" / "rlib"
-    kits = ["std", *[it for it in of[name] if it not in of]]
-    made = ["--crate-name", name, "src/lib.rt", *[f"--extern={it}={at}/rlibs/{it}.rlib" for it in kits], "-L", f"dependency={at}/rlibs"]
-    for it in of[name]:
-        made += [f"--extern={it}={rlib(it)}/{it}.rlib"] if it in of else []
-    for it in below(name, of):
-        if not (rlib(it) / f"{it}.rlib").is_dir():
-            sys.exit(f"capture.py: the library {it} is missing: ./check leaves it")
-        made += ["-L", f"dependency={rlib(it)}"]
-    made += ["--antt-project", f"{at}/rattle/logic/antt-project.json", "--links", f"{name}="]
-    return [*made, "--crate-type", "staticlib", "--cpu", "x86-64"]
 
 
 def make_toolchain(room, at):
@@ -75,7 +39,7 @@ def make_toolchain(room, at):
 
 def run(line, crate):
     how = {"stdin": subprocess.DEVNULL, "stdout": subprocess.PIPE, "stderr": subprocess.STDOUT, "text": True, "errors": "replace"}
-    ran = subprocess.run(list(map(str, line)), cwd=ROOT / "crates" / crate, check=False, **how)
+    ran = subprocess.run(list(map(str, line)), cwd=CRATES / crate, check=False, **how)
     if ran.returncode:
         sys.exit(f"capture.py: {line[1]} ended with status {ran.returncode}: {ran.stdout[-2000:]}")
     return ran.stdout
@@ -86,12 +50,13 @@ def main():
     parser.add_argument("module", type=pathlib.Path)
     parser.add_argument("--archive", type=pathlib.Path)
     parser.add_argument("--crate", default="causal_judge_library")
-    given, at = parser.parse_args(), kit()
+    given, at = parser.parse_args(), kit_folder()
     given.module = given.module.resolve()
     with tempfile.TemporaryDirectory(prefix="capture-") as folder:
         room = pathlib.Path(folder)
         make_toolchain(room / "toolchain", at)
-        named, rattle = words(given.crate, at), at / "bin" / "rattle"
+        named = [*words_for(given.crate, crates_listed(), at), "--links", f"{given.crate}=", "--cpu", "x86-64"]
+        rattle = at / "bin" / "rattle"
         said = run([rattle, "check", *named, "--logic-built", at / "logic_built", "-o", room / "checked"], given.crate)
         verdict = said.rstrip().split("\n")[-1]
         if not VERDICT.match(verdict):

@@ -4,6 +4,7 @@ import base64
 import contextlib
 import json
 import os
+import pathlib
 import re
 import secrets
 import shutil
@@ -100,8 +101,11 @@ class Browser:
         with open(f"{self.room}/user.js", "w", encoding="ascii") as file:
             file.writelines(f"user_pref({json.dumps(name)}, {json.dumps(value)});\n" for name, value in settings.items())
         words = [program(), "--headless", "--no-remote", "--profile", self.room, "--remote-debugging-port", "0", "about:blank"]
-        how = {"stdin": subprocess.DEVNULL, "stdout": subprocess.DEVNULL, "stderr": subprocess.PIPE, "start_new_session": True}
-        self.process = subprocess.Popen(words, env={**os.environ, "HOME": self.room}, **how)
+        # What it says goes to a file: a pipe that nobody reads would stop it once it is full.
+        self.said = pathlib.Path(self.room, "said")
+        with open(self.said, "wb") as said:
+            how = {"stdin": subprocess.DEVNULL, "stdout": subprocess.DEVNULL, "stderr": said, "start_new_session": True}
+            self.process = subprocess.Popen(words, env={**os.environ, "HOME": self.room}, **how)
         self.last, self.replies, self.messages, self.requests = 0, {}, [], []
         try:
             self.socket = Socket(*self.address(), "/session")
@@ -115,22 +119,22 @@ class Browser:
 
     def address(self):
         """Where it listens, as it says on standard error."""
-        os.set_blocking(self.process.stderr.fileno(), False)
-        said, end = b"", time.monotonic() + MOST_SECONDS
-        while time.monotonic() < end:
-            said += self.process.stderr.read() or b""
-            found = ADDRESS.search(said)
-            if found:
+        end = time.monotonic() + MOST_SECONDS
+        while time.monotonic() < end and self.process.poll() is None:
+            if found := ADDRESS.search(self.said.read_bytes()):
                 return found[1].decode(), int(found[2])
-            if self.process.poll() is not None:
-                break
             time.sleep(0.1)
-        raise BrowserError(f"it does not listen: {said[-300:].decode(errors='replace')}")
+        raise BrowserError(f"it does not listen: {self.state()}")
+
+    def state(self):
+        """Whether the process runs, and the last that it said."""
+        status = self.process.poll()
+        runs = "it runs" if status is None else f"its status is {status}"
+        return f"{runs}, and it said {self.said.read_bytes()[-600:].decode(errors='replace')!r}"
 
     def end(self):
         self.process.kill()
         self.process.wait()
-        self.process.stderr.close()
         shutil.rmtree(self.room, ignore_errors=True)
 
     def __enter__(self):
@@ -145,14 +149,15 @@ class Browser:
     def ask(self, method, **given):
         """Sends a command, and gives its result."""
         self.last += 1
-        self.socket.send(json.dumps({"id": self.last, "method": method, "params": given}))
-        while True:
-            message = json.loads(self.socket.text())
-            if message.get("id") == self.last:
-                if message["type"] == "error":
-                    raise BrowserError(f"{method}: {message.get('message')}")
-                return message["result"]
-            self.take(message)
+        try:
+            self.socket.send(json.dumps({"id": self.last, "method": method, "params": given}))
+            while (message := json.loads(self.socket.text())).get("id") != self.last:
+                self.take(message)
+        except (OSError, BrowserError) as fault:
+            raise BrowserError(f"{method}: {fault or type(fault).__name__}: {self.state()}") from fault
+        if message["type"] == "error":
+            raise BrowserError(f"{method}: {message.get('message')}")
+        return message["result"]
 
     def take(self, message):
         method, given = message.get("method"), message.get("params", {})

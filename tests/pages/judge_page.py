@@ -1,8 +1,9 @@
 """Tries causal_judge.html from a file in headless Chromium and Firefox: wasm_module.py calls it.
 
-Each browser opens the page, judges its examples, files, dropped and pasted texts, and shows the page of `explain --html` in its frame.
-What it shows has to be what the native library says. It stops work, refuses inputs in words with the line at fault, saves what it shows,
-and is used by keys alone, on narrow screens and in the dark. No request may leave it, also where its own script tries to send one.
+Each browser opens the page. The module in it answers random inputs to all calls (module_in_browser.py). The page judges its examples, files,
+dropped and pasted texts, and shows the page of `explain --html` in its frame. What it shows has to be what the native library says. It
+stops work, refuses inputs in words with the line at fault, saves what it shows, and is used by keys alone, on narrow screens and in the
+dark. No request may leave it, also where its own script tries to send one.
 """
 
 import contextlib
@@ -16,6 +17,7 @@ import time
 
 import browser
 import firefox
+import module_in_browser
 
 MOST_SECONDS, MOST_RUNS = 120, 3
 EXAMPLES = pathlib.Path(__file__).resolve().parents[2] / "examples"
@@ -197,13 +199,20 @@ def held_cases(window, counting):
 
 
 def look_cases(window, room, name):
-    """Narrow and wide screens."""
-    for width, height in ((1280, 900), (700, 900), (390, 844), (320, 640)):
+    """Narrow and wide screens: nothing is cut, and an answer is in sight."""
+    sizes = ((1280, 900), (700, 900), (390, 844), (320, 640))
+    for width, height in sizes:
         window.size(width, height)
         time.sleep(0.3)
         fits = window.run("document.documentElement.scrollWidth <= window.innerWidth")
         window.picture(room / f"judge_page-{name}-{width}.png")
         yield f"nothing is cut at {width} pixels", fits
+    for width, height in sizes:
+        window.size(width, height)
+        window.run("window.scrollTo(0, 0)")
+        is_well = given(window, BAD_LOG)
+        top, bottom, low = window.run("(it => [it.top, it.bottom, innerHeight])(document.getElementById('result').getBoundingClientRect())")
+        yield f"a refusal is in sight at {width} pixels: {top} to {bottom} of {low}", is_well and top > -1 and bottom < low + 1
     window.size(1280, 900)
 
 
@@ -252,11 +261,12 @@ def large_cases(window, library, large, seconds, name):
     yield f"its time: {best} s, natively {seconds:.2f} s", best <= 3 * seconds
 
 
-def cases(window, page, room, library, large, seconds, name):
+def cases(window, page, room, library, inputs, large, seconds, name):
     """All cases in one browser."""
     window.size(1280, 900)
     window.open(page)
     yield "the page opens", window.run("document.title") == "causal_judge" and wait(window, "worker !== undefined")
+    yield from module_in_browser.cases(window, library, inputs)
     yield from example_cases(window, library)
     yield from input_cases(window, library, room)
     yield from look_cases(window, room, name)
@@ -304,7 +314,7 @@ def named(name, some):
         yield f"{name}: {fault!r:.300}", False
 
 
-def tried(page, room, library, large, seconds, add, pictures=None):
+def tried(page, room, library, inputs, large, seconds, add, pictures=None):
     """Adds all cases of each browser that is there, and gives how many browsers are skipped. Pictures are kept in a folder."""
     skipped = 0
     kinds = (("chromium", browser, browser.opened, dark_chromium), ("firefox", firefox, firefox.opened, functools.partial(firefox.opened, True)))
@@ -314,7 +324,7 @@ def tried(page, room, library, large, seconds, add, pictures=None):
             skipped += 1
             continue
         with opened() as window:
-            add(named(name, cases(window, page, room, library, large, seconds, name)))
+            add(named(name, cases(window, page, room, library, inputs, large, seconds, name)))
         add(named(name, dark_cases(dark, page, room, name)))
     if pictures:
         for picture in room.glob("judge_page-*.png"):

@@ -8,7 +8,7 @@ random inputs, half of them mangled, go to the module by Node and to the library
 and the text have to be the same, and no memory may be left over. So do hostile inputs, very long ones, and a log of 1,000,000 events,
 which may take three times as long as natively. Then memory ends at many limits: each call has to answer as usual or to say so, and the
 next call has to be right. 10,000 calls have to take no more memory than the first ones. judge_page.py tries the page in Chromium and
-Firefox, where they are there; --pictures keeps what it draws.
+Firefox, where they are there, and puts the random inputs to the module in each; --pictures keeps what it draws.
 
 PROGRAM is not run: the library is compared with it by embed/run.py.
 """
@@ -17,6 +17,7 @@ import argparse
 import collections
 import contextlib
 import ctypes
+import itertools
 import json
 import pathlib
 import random
@@ -287,7 +288,8 @@ def main():
         library = Library((given.library or made / "library.a").resolve(), room)
         with Module(made / "causal_judge.wasm") as module:
             add([("the module has the library's calls", module.said(calls=True)[0]["calls"] == sorted(CALLS))])
-            add(compared(module, library, ((CALLS[it % len(CALLS)], data_of(rng, CALLS[it % len(CALLS)])) for it in range(given.count))))
+            inputs = [(call, data_of(rng, call)) for call in itertools.islice(itertools.cycle(CALLS), given.count)]
+            add(compared(module, library, inputs))
             if given.count >= 40 * len(CALLS):
                 add((f"some inputs of {call} have status {status}", SEEN[call, status]) for call in CALLS for status in (0, 1))
             add(compared(module, library, hostile()))
@@ -298,7 +300,7 @@ def main():
         log.write_bytes(log_of(random.Random(7), EVENTS))
         with Module(made / "causal_judge.wasm") as module:
             add(large(module, library, log.read_bytes()))
-        skipped = judge_page.tried(made / "causal_judge.html", room, library, log, SECONDS["log_judge"], add, given.pictures)
+        skipped = judge_page.tried(made / "causal_judge.html", room, library, inputs, log, SECONDS["log_judge"], add, given.pictures)
     end(*total, skipped)
 
 
