@@ -20,6 +20,8 @@ mod null_reads;
 mod origins;
 mod seen;
 mod sessions;
+#[cfg(test)]
+mod tests;
 
 pub use chosen_history::{history_by, no_choice_leaves_null_reads_out, origins_by};
 pub use left_out::left_out_by;
