@@ -1,5 +1,5 @@
 -- What decides which operations calls have by a choice.
-use Rattle.std.proofs.Common.{◌≡◌, ℕ, List, ap, sym, ◌∙◌, subst}
+use Rattle.std.proofs.Common.{◌≡◌, ℕ, List, subst}
 use Rattle.std.specs.Prelude.{All, Contains, Some}
 use Rattle.std.proofs.lemmas.List.Elements.{All-contains}
 use Rattle.log_events.specs.declared.event.ClientCall.TheVariants.{WriteTo, ReadOf}

@@ -1,5 +1,5 @@
 -- The history of a log by a choice is a long history.
-use Rattle.std.proofs.Common.{ℕ, ◌<◌, ◌≤◌, ◌^◌, List, refl, ap, subst, arith, length}
+use Rattle.std.proofs.Common.{ℕ, ◌≤◌, List, refl, ap, subst, arith, length}
 use Rattle.std.specs.Prelude.{All, filter_map}
 use Rattle.std.proofs.lemmas.Option.{slice_get_within, get_or_from_slice_get}
 use Rattle.order_causal.specs.Orders.{op}

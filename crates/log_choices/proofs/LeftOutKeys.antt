@@ -1,10 +1,9 @@
 -- The keys of reads that are left out by a choice, and how many they are.
-use Rattle.std.proofs.Common.{◌≡◌, ℕ, zero, suc, ◌<◌, ◌≤◌, Bool, true, false, List, [], ◌∷◌, length, refl, ap, sym, subst, ◌∙◌, ⊎_elim, arith, eq-eqb, eqb-true}
+use Rattle.std.proofs.Common.{◌≡◌, ℕ, suc, ◌<◌, ◌≤◌, Bool, true, false, List, [], ◌∷◌, length, refl, ap, sym, subst, ◌∙◌, ⊎_elim, arith, eq-eqb, eqb-true}
 use Rattle.std.specs.Prelude.{◌≢◌, ◌↔◌, ◌==◌, ◌&&◌, cond, Contains, Option, Some, None, filter, slice_get, unwrap_or}
 use Rattle.std.specs.List.{cons_option}
 use Rattle.std.specs.Option.{is_none}
 use Rattle.std.proofs.lemmas.Bool.{cases_eq, cases_lt, ne_eqb}
-use Rattle.model_objects.specs.Table.{value_at}
 use Rattle.log_events.specs.declared.event.ClientCall.{ClientCall}
 use Rattle.log_events.specs.declared.event.ClientCall.TheVariants.{WriteTo, ReadOf, DeleteOf}
 use Rattle.log_events.specs.declared.event.Ending.{Ending}

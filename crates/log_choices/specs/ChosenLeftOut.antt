@@ -1,5 +1,5 @@
 -- The null reads that the history of a log by a choice leaves out.
-use Rattle.std.specs.Prelude.{◌≡◌, ℕ, ◌<◌, ◌&&◌, All, Bool, List, length, filter, Option, Some, None, unwrap_or}
+use Rattle.std.specs.Prelude.{◌≡◌, ℕ, ◌<◌, ◌&&◌, All, List, length, filter, unwrap_or}
 use Rattle.std.specs.Option.{is_none}
 use Rattle.model_objects.specs.Table.{IsRising, value_at}
 use Rattle.log_events.specs.declared.event.Event.{Event}

@@ -2,8 +2,11 @@
 //!
 //! A read that found nothing, of a key that some delete names, may have seen the start or a delete. `specs/Choices` says which, and
 //! `specs/ChosenHistories` which history a log has for each choice. A log meets a criterion where its history does by some choice
-//! (`specs/ChosenCriteria`). `specs/Forced` says what holds by each such choice. In [`laws`] is what follows. It uses log_events and
-//! pattern_check.
+//! (`specs/ChosenCriteria`). `specs/Forced` says what holds by each such choice. In [`laws`] is what follows.
+//!
+//! At run time a choice is a table of what null reads saw, each [`Seen`], by the places of their begins (`specs/ChoiceTables`). By it
+//! [`history_by`] gives the history, [`origins_by`] for each operation of it the call, and [`left_out_by`] the reads that it leaves out.
+//! The crate uses log_events and pattern_check.
 #![tactic(auto)]
 
 mod chosen_calls;
@@ -17,6 +20,8 @@ mod null_reads;
 mod origins;
 mod seen;
 mod sessions;
+#[cfg(test)]
+mod tests;
 
 pub use chosen_history::{history_by, no_choice_leaves_null_reads_out, origins_by};
 pub use left_out::left_out_by;

@@ -34,7 +34,8 @@ pub(crate) fn seen_deletes(
     reads: &NullReads<'_>,
 ) -> Result<Vec<(u32, u32)>, AllocError>
     ensures sorted { IfOk result (λ pairs. AreSorted pairs.items) }
-    ensures exact { IfOk result (λ pairs. (x p : ℕ) → Contains pairs.items (x, p) ↔ IsTrue (is_seen reads.now.0 (choice_in reads.now.1) x p)) }
+    ensures exact { IfOk result (λ pairs. (x p : ℕ)
+        → Contains pairs.items (x, p) ↔ IsTrue (is_seen reads.now.0 (choice_in reads.now.1) x p)) }
 {
     let mut pairs = Vec::new(alloc);
     for call in reads.log().calls() {

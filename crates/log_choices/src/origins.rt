@@ -30,7 +30,8 @@ pub(crate) fn origins_of(
 
 /// The calls of the operations in the clients' sessions.
 fn client_origins(alloc: Global, calls: &ChosenCalls<'_>) -> Result<Rows<LoggedCall>, AllocError>
-    ensures { IfOk result (λ origins. origins ≡ map (client_origins_by calls.now.0 (choice_in calls.now.1)) (range_with_len 0 (clients calls.now.0))) }
+    ensures { IfOk result (λ origins. origins
+        ≡ map (client_origins_by calls.now.0 (choice_in calls.now.1)) (range_with_len 0 (clients calls.now.0))) }
 {
     let rows = calls.client_calls(alloc)?;
     let mut kept = Vec::new(alloc);
@@ -49,7 +50,8 @@ fn collect_kept(
     kept: &mut Vec<LoggedCall>,
 ) -> Result<(), AllocError>
     requires { All (Contains (run_calls calls.now.0)) row.now }
-    ensures { OnOk result (kept.new.items ≡ filter (λ a. is_some (operation_by calls.now.0 (choice_in calls.now.1) a.place a.call a.ending)) row.now) }
+    ensures { OnOk result (kept.new.items
+        ≡ filter (λ a. is_some (operation_by calls.now.0 (choice_in calls.now.1) a.place a.call a.ending)) row.now) }
 {
     kept.clear();
     for call in row {

@@ -29,7 +29,8 @@ pub(crate) fn sessions_of(
 
 /// The sessions of the clients.
 fn client_sessions(alloc: Global, calls: &ChosenCalls<'_>) -> Result<Rows<LongEntry>, AllocError>
-    ensures { IfOk result (λ sessions. sessions ≡ map (client_session_by calls.now.0 (choice_in calls.now.1)) (range_with_len 0 (clients calls.now.0))) }
+    ensures { IfOk result (λ sessions. sessions
+        ≡ map (client_session_by calls.now.0 (choice_in calls.now.1)) (range_with_len 0 (clients calls.now.0))) }
 {
     let rows = calls.client_calls(alloc)?;
     let mut session = Vec::new(alloc);
@@ -48,7 +49,8 @@ fn collect_operations(
     session: &mut Vec<LongEntry>,
 ) -> Result<(), AllocError>
     requires { All (Contains (run_calls calls.now.0)) row.now }
-    ensures { OnOk result (session.new.items ≡ filter_map (λ a. operation_by calls.now.0 (choice_in calls.now.1) a.place a.call a.ending) row.now) }
+    ensures { OnOk result (session.new.items
+        ≡ filter_map (λ a. operation_by calls.now.0 (choice_in calls.now.1) a.place a.call a.ending) row.now) }
 {
     session.clear();
     for call in row {

@@ -16,7 +16,6 @@ use Rattle.log_events.specs.Steps.CallKinds.{missed_key, missed_keys}
 use Rattle.log_events.specs.Steps.Outcomes.{AreSorted}
 use Rattle.log_choices.specs.declared.seen.Seen.{Seen}
 use Rattle.log_choices.specs.Choices.{Choice}
-use Rattle.log_choices.specs.ChoiceTables.{choice_in}
 use Rattle.log_choices.specs.ChosenHistories.{saw, is_seen}
 
 -- the places of the table rise, and these are the keys that some delete names, among those of reads that got nothing

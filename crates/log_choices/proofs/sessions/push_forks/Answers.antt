@@ -1,7 +1,6 @@
-use Rattle.std.proofs.Common.{◌++◌, ◌∷◌, [], List, take, ap, sym, subst, ◌∙◌, append_assoc}
-use Rattle.std.specs.Prelude.{Contains, filter_map}
-use Rattle.std.proofs.lemmas.List.Elements.{All-contains_itself}
-use Rattle.log_events.specs.Events.{Call, run_calls}
+use Rattle.std.proofs.Common.{◌++◌, ◌∷◌, [], List, take, ap, sym, ◌∙◌, append_assoc}
+use Rattle.std.specs.Prelude.{filter_map}
+use Rattle.log_events.specs.Events.{Call}
 use Rattle.log_events.specs.Histories.{Operation}
 use Rattle.log_events.proofs.Loops.{filter_map_more-some, filter_map_more-none}
 use Rattle.log_choices.specs.ChoiceTables.{choice_in}

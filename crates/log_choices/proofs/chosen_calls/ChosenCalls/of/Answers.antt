@@ -1,8 +1,8 @@
-use Rattle.std.proofs.Common.{◌≡◌, ℕ, List, ap, sym, subst, ◌∙◌}
+use Rattle.std.proofs.Common.{ℕ, List, ap, sym, subst}
 use Rattle.std.specs.Prelude.{◌↔◌, All, Contains, IsTrue}
 use Rattle.std.specs.List.Sorted.{IsStrictlyIncreasing}
 use Rattle.log_events.specs.declared.event.Event.{Event}
-use Rattle.log_events.specs.Events.{Call, run_calls}
+use Rattle.log_events.specs.Events.{run_calls}
 use Rattle.log_events.specs.Histories.{is_returned}
 use Rattle.log_events.specs.Kept.{IsSmallCall}
 use Rattle.log_choices.specs.declared.seen.Seen.{Seen}

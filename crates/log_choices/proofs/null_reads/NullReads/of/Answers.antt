@@ -3,7 +3,6 @@ use Rattle.std.specs.Prelude.{◌↔◌, Contains, IsTrue}
 use Rattle.std.specs.List.Sorted.{IsStrictlyIncreasing}
 use Rattle.std.specs.Map.{keys_of}
 use Rattle.log_events.specs.Histories.{is_deleted}
-use Rattle.log_choices.specs.Steps.ChosenCalls.{AreNullReads}
 use Rattle.log_choices.proofs.MissedKeys.{missed-deleted}
 use Rattle.log_choices.proofs.null_reads.NullReads.of.Goals as goal
 
