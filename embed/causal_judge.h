@@ -201,7 +201,8 @@ uint8_t causal_judge_long_refute(const uint8_t *input, size_t input_bytes,
  *
  * The text of a refusal is what the program writes to standard error: the
  * number of the refusal and of the line at fault, as `refused 30 2`, and on a
- * second line what is wrong there.
+ * second line what is wrong there, which may be said in fewer words where
+ * there is little memory.
  */
 
 /*
