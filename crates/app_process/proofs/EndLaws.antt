@@ -26,7 +26,7 @@ use Rattle.app_process.specs.Statuses.{status_after, wants_counts}
 use Rattle.app_process.specs.declared.noticing.Noticed.{Noticed}
 use Rattle.app_process.specs.Steps.LineOutcomes.{SaysOutcome}
 use Rattle.app_process.specs.Steps.Noticing.{HasNoticed, nothing}
-use Rattle.app_process.proofs.NoticingLaws.{says_remarks}
+use Rattle.app_process.proofs.NoticingLaws.{noticed_is_said}
 use Rattle.app_process.proofs.SaidLaws as laws
 
 -- nothing is said of counts that are not wanted
@@ -78,7 +78,7 @@ module _ (label : Option (List ℕ)) where
         outcome = outcome;
         answered = subst P is_reader answered;
         is_status = said.0;
-        said = says_remarks label judging.blank inner reader said_before said_after start noticed is_start is_reader whole said.1;
+        said = noticed_is_said label judging.blank inner reader said_before said_after start noticed is_start is_reader whole said.1;
       })
   ends_lines judging inner reader before after said_before said_after status (Err error) start noticed answered first is_fault whole is_start is_reader said =
       let P : Option (List ℕ) → Type 0 = λ known. error ≢ failures.WriteFault → FirstAreAnswered (IsLineAnswer judging) known before after in

@@ -196,9 +196,9 @@ says_of label blank (Some bytes) before after noticed whole (inr said) =
     let is_all = ap (λ (n : Noticed). remarks_in (all_ended n)) (whole bytes refl) ∙ noticed_all blank bytes in
     inr (subst (λ text. Appends before after (said_lines label text)) is_all said)
 
-pub says_remarks : (label : Option (List ℕ)) (blank : BlankLines) (inner input before after : Known) (start noticed : Noticed) → start ≡ nothing blank
+pub noticed_is_said : (label : Option (List ℕ)) (blank : BlankLines) (inner input before after : Known) (start noticed : Noticed) → start ≡ nothing blank
     → inner ≡ input → HasNoticed start inner noticed → SaysNoticed label noticed before after → SaysLineRemarks label blank input before after
-says_remarks label blank inner input before after start noticed is_start is_input whole said =
+noticed_is_said label blank inner input before after start noticed is_start is_input whole said =
     let P : Noticed → Type 0 = λ n. HasNoticed n inner noticed in
     let Q : Known → Type 0 = λ k. HasNoticed (nothing blank) k noticed in
     says_of label blank input before after noticed (subst Q is_input (subst P is_start whole)) said
