@@ -157,7 +157,8 @@ def search_faults(window, page):
     window.press("/")
     window.type("reads")
     window.press("Enter")
-    yield "Enter goes to what was found", window.run("document.activeElement.closest('#rows') !== null")
+    found = text_of(window, "#operations-title")
+    yield f"Enter goes to what was found: {found}", found.endswith(" found") and window.run("document.activeElement.closest('#rows') !== null")
     window.press("Enter")
     yield "a click on an operation lists what is around it", " around " in text_of(window, "#operations-title")
 

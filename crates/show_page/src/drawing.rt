@@ -125,7 +125,7 @@ function linesOf(fault, {op}, isWide) {   // the lines of a box: how each looks,
   return isWide ? lines : [['small', placeText(op) + ' ' + apart(names.session(run.session[op]))], ...lines];
 }
 function drawPicture(fault) {
-  const steps = stepsFor(fault), room = $('fault-shown').clientWidth, width = Math.max(270, Math.min(1180, room));
+  const steps = stepsFor(fault), room = $('fault-shown').clientWidth || 1, width = Math.max(270, Math.min(1180, room));
   const plan = layOut(run, fault, steps, width);
   const side = plan.isWide ? 0 : plan.across + 10, across = plan.isWide ? plan.across : side + Math.min(320, Math.max(190, width - side));
   const texts = [], shapes = [], lines = [], head = plan.isWide ? 50 : 12;
@@ -635,7 +635,11 @@ function answerKeys() {
   $('search').addEventListener('input', () => { clearTimeout(timer); timer = setTimeout(search, 120); });
   $('search').addEventListener('keydown', event => {
     if (event.key === 'Escape') { event.preventDefault(); $('search').value = ''; search(); $('search').blur(); }
-    if (event.key === 'Enter') { clearTimeout(timer); search(); $('rows').querySelector('button')?.focus(); }
+    if (event.key !== 'Enter') return;
+    event.preventDefault();   // else the same key would press the button that gets the focus
+    clearTimeout(timer);
+    search();
+    $('rows').querySelector('button')?.focus();
   });
   $('fault-list').addEventListener('keydown', answerListKey);
   for (const event of ['focus', 'blur']) map.addEventListener(event, redraw);
