@@ -1,5 +1,5 @@
 -- The first words of a command line.
-use Rattle.std.proofs.Common.{◌≡◌, refl, ◌<◌, ◌≤◌, ℕ, sym, List, [], ◌∷◌, ◌-◌, ◌∙◌, length, map, drop, take, get_or, ap, subst, arith, Option, MatchOption}
+use Rattle.std.proofs.Common.{◌≡◌, refl, ◌<◌, ◌≤◌, ℕ, List, [], ◌∷◌, ◌-◌, ◌∙◌, length, map, drop, take, get_or, ap, subst, arith, Option, MatchOption}
 use Rattle.std.proofs.lemmas.List.{take_all}
 use Rattle.clap.specs.Words.{Text}
 use Rattle.app_orders.specs.declared.manner.Asked.{Asked}

@@ -63,8 +63,9 @@ pub fn long_distinct_values_are_decided()
         → ((kind : Kind) × (answer_for report.report criterion ≡ Answer.No kind)) ↔ ¬ Meets memory_answer h criterion }
 {}
 
-/// What `explain` shows of an input agrees with what `judge` says of it: in words, as JSON, with certificates and in lists of faults. One never
-/// says yes where the other says no. On a memory of distinct values both say the same word, and within the limits a no names the same kind.
+/// What `explain` shows of an input agrees with what `judge` says of it: in words, as JSON, with certificates and in lists of faults. One
+/// never says yes where the other says no. On a memory of distinct values both say the same word, and within the limits a no names the same
+/// kind.
 pub fn explanations_agree_with_reports()
     ensures words { (long : Length) (input text words : List ℕ) (report : IsReportAt long input text)
         (told : IsWordedAt long input words) → Agree report.history report.report told.findings }

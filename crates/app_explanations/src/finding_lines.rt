@@ -22,8 +22,9 @@ const CERTIFIED: &str =
 
 /// The lines that say why a history meets a criterion, does not, or why that is not known.
 ///
-/// The words promise nothing. A core is judged by itself before it is written. Fails for want of memory alone. The cost is that of the words and the core of a pattern, of a certificate where a memory meets causal memory,
-/// of the piece that a certificate does not explain, and of the history without the variables whose values are not distinct.
+/// The words promise nothing. A core is judged by itself before it is written. Fails for want of memory alone. The cost is that
+/// of the words and the core of a pattern, of a certificate where a memory meets causal memory, of the piece that a certificate
+/// does not explain, and of the history without the variables whose values are not distinct.
 pub(crate) fn lines_of_finding<N: Names>(
     alloc: Global,
     history: Examined<'_, '_>,
@@ -139,7 +140,8 @@ fn lines_of_memory<N: Names>(
     criterion: Criterion,
     shown: Option<(OpId, Option<&Certificate>)>,
 ) -> Result<Lines, AllocError>
-    ensures { IfOk result (λ lines. IfSome lines.core (λ t. IsTextOfCore Limited (AnyHistory.Memory memory.now) criterion (string_bytes t))) }
+    ensures { IfOk result (λ lines. IfSome lines.core
+        (λ t. IsTextOfCore Limited (AnyHistory.Memory memory.now) criterion (string_bytes t))) }
 {
     let mut words = words_of_repeated_values(alloc, memory, names)?;
     push_line(

@@ -11,7 +11,8 @@ ghost use Rattle.judge_cores.specs.declared.long_core.Gathered.TheVariants.{Core
 use judge_cores::Gathered;
 use pattern_check::Kind;
 
-/// A kind that a long history shows, and the operations that were gathered of it. A core does not meet the criteria that the kind is against.
+/// A kind that a long history shows, and the operations that were gathered of it. A core does not meet the criteria that the kind is
+/// against.
 #[derive(Drop)]
 pub(crate) struct Found {
     pub kind: Kind,

@@ -16,8 +16,8 @@ use json_histories::AnyHistory;
 use show_words::{Names, OwnNames};
 use std::alloc::{AllocError, Global};
 
-/// What is found of a history, as JSON: for each criterion whether it is met, what shows it, and the [remark](crate::Remark) on that. A line
-/// feed ends the text.
+/// What is found of a history, as JSON: for each criterion whether it is met, what shows it, and the [remark](crate::Remark) on that.
+/// A line feed ends the text.
 ///
 /// Fails for want of memory alone. It costs what [`findings_of`] takes, with its patterns, the remarks, and O(n) for n bytes of the text.
 pub fn json_of_history<W: PieceWork>(
@@ -67,7 +67,8 @@ fn json_of_findings<N: Names>(
 
 /// The same with the certificates of what is met. Causal memory may have none.
 ///
-/// Fails for want of memory alone. It costs what [`findings_of`] takes, with its certificates, the remarks, and O(n) for n bytes of the text.
+/// Fails for want of memory alone. It costs what [`findings_of`] takes, with its certificates, the remarks, and O(n) for n bytes of the
+/// text.
 pub fn certified_json_of_history<W: PieceWork>(
     work: &W,
     alloc: Global,

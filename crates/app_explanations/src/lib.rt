@@ -1,9 +1,10 @@
 //! What is found of a history, as people and programs read it: the lines of a report, words, JSON, a picture, and the list of faults.
 //!
-//! It gives [`report_text`] for findings that are there; [`words_of_history`], [`json_of_history`], [`certified_json_of_history`] and
-//! [`drawing_of_history`], which find them too; and [`explained_long`], [`explained_as`], [`listed_long`] and [`list_in_long`] for histories of any length. It uses app_findings for
-//! what is known of a history, and show_words, show_pictures, pattern_json, judge_cores and show_faults for how that is shown. The words and what a
-//! picture shows may change: callers rest on the contracts, which say where the lines of a report are, and what JSON is written.
+//! It gives [`report_text`] for findings that are there; [`words_of_history`], [`json_of_history`], [`certified_json_of_history`]
+//! and [`drawing_of_history`], which find them too; and [`explained_long`], [`explained_as`], [`listed_long`] and
+//! [`list_in_long`] for histories of any length. It uses app_findings for what is known of a history, and show_words,
+//! show_pictures, pattern_json, judge_cores and show_faults for how that is shown. The words and what a picture shows may change:
+//! callers rest on the contracts, which say where the lines of a report are, and what JSON is written.
 #![tactic(auto)]
 
 mod broken;

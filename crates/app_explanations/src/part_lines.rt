@@ -31,7 +31,8 @@ pub(crate) fn lines_with_core<N: Names>(
     criterion: Criterion,
     pattern: &Pattern,
 ) -> Result<Lines, AllocError>
-    ensures { IfOk result (λ lines. IfSome lines.core (λ t. IsTextOfCore Limited (AnyHistory.Memory history.now) criterion (string_bytes t))) }
+    ensures { IfOk result (λ lines. IfSome lines.core
+        (λ t. IsTextOfCore Limited (AnyHistory.Memory history.now) criterion (string_bytes t))) }
 {
     let words = words_of_pattern(alloc, history, names, pattern)?;
     with_core(alloc, words, history, names, criterion, pattern)
@@ -48,7 +49,8 @@ pub(crate) fn lines_without_variables<N: Names>(
     names: &N,
     criterion: Criterion,
 ) -> Result<Lines, AllocError>
-    ensures { IfOk result (λ lines. IfSome lines.core (λ t. IsTextOfCore Limited (AnyHistory.Memory memory.now) criterion (string_bytes t))) }
+    ensures { IfOk result (λ lines. IfSome lines.core
+        (λ t. IsTextOfCore Limited (AnyHistory.Memory memory.now) criterion (string_bytes t))) }
 {
     let history = memory.history();
     let variables = repeated_variables(alloc, memory)?;
