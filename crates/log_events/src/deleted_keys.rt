@@ -1,11 +1,12 @@
 //! Which keys some delete names, and the reads that are left out for it.
 
-ghost use Rattle.std.specs.Prelude.{ℕ, ◌<◌, ◌^◌, ◌↔◌, Contains, IfOk, length};
+ghost use Rattle.std.specs.Prelude.{ℕ, ◌≡◌, ◌<◌, ◌^◌, ◌↔◌, Contains, IfOk, length};
 ghost use Rattle.std.specs.List.Sorted.{IsStrictlyIncreasing};
-ghost use Rattle.log_events.specs.Steps.CallKinds.{deleted_keys as keys_deleted, missed_keys};
-ghost use Rattle.log_events.specs.Steps.Tallies.{AreCounted, IsTally};
+ghost use Rattle.log_events.specs.Steps.CallKinds.{deleted_keys as keys_deleted, missed_keys as keys_missed};
+ghost use Rattle.log_events.specs.Steps.Tallies.{IsTally};
 
 use crate::logged_call::LoggedCall;
+use crate::tallies::tally_of;
 use std::alloc::{AllocError, Global};
 
 /// The keys of deletes that did not fail, each once, in order.
@@ -26,23 +27,19 @@ pub(crate) fn deleted_keys(alloc: Global, calls: &[LoggedCall]) -> Result<Vec<u3
     Ok(keys)
 }
 
-/// For each of some keys that rise, how many reads of it got nothing.
+/// The keys of reads that got nothing, each as often as it has such reads.
 ///
-/// Fails for want of memory alone. O(n log k) for n calls and k keys.
-fn missed_counts(alloc: Global, calls: &[LoggedCall], keys: &[u32]) -> Result<Vec<u32>, AllocError>
-    requires few { length calls.now < 2 ^ 32 }
-    requires rising { IsStrictlyIncreasing keys.now }
-    ensures { IfOk result (λ counts. AreCounted (missed_keys calls.now) keys.now counts.items) }
+/// Fails for want of memory alone. O(n) for n calls.
+fn missed_keys(alloc: Global, calls: &[LoggedCall]) -> Result<Vec<u32>, AllocError>
+    ensures { IfOk result (λ keys. keys.items ≡ keys_missed calls.now) }
 {
-    let mut counts = vec![in alloc; 0; keys.len()]?;
+    let mut keys = Vec::new(alloc);
     for call in calls {
         if let Some(key) = call.missed_key() {
-            if let Ok(place) = keys.binary_search(&key) {
-                counts[place] += 1;
-            }
+            keys.push(key)?;
         }
     }
-    Ok(counts)
+    Ok(keys)
 }
 
 /// Of some keys that rise, those with reads that got nothing, each with the number of these reads.
@@ -55,14 +52,8 @@ pub(crate) fn missed_reads(
 ) -> Result<Vec<(u32, u32)>, AllocError>
     requires few { length calls.now < 2 ^ 32 }
     requires rising { IsStrictlyIncreasing keys.now }
-    ensures { IfOk result (λ tally. IsTally (missed_keys calls.now) keys.now tally.items) }
+    ensures { IfOk result (λ tally. IsTally (keys_missed calls.now) keys.now tally.items) }
 {
-    let counts = missed_counts(alloc, calls, keys)?;
-    let mut found = Vec::new(alloc);
-    for (place, key) in keys.iter().enumerate() {
-        if counts[place] != 0 {
-            found.push((*key, counts[place]))?;
-        }
-    }
-    Ok(found)
+    let missed = missed_keys(alloc, calls)?;
+    tally_of(alloc, &missed, keys)
 }

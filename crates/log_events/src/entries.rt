@@ -8,7 +8,7 @@ use judge_memory::LongEntry;
 use model_objects::{KeyedCall, RegisterCall, RegisterRet};
 
 /// A write of a value to a variable, with its return where that is known.
-pub(crate) fn write_of(variable: u32, value: u64, known: Option<RegisterRet>) -> LongEntry
+pub fn write_of(variable: u32, value: u64, known: Option<RegisterRet>) -> LongEntry
     ensures { result ≡ write variable value known }
 {
     let call = KeyedCall {
@@ -19,7 +19,7 @@ pub(crate) fn write_of(variable: u32, value: u64, known: Option<RegisterRet>) ->
 }
 
 /// A read of a variable, with its return where that is known.
-pub(crate) fn read_of(variable: u32, known: Option<RegisterRet>) -> LongEntry
+pub fn read_of(variable: u32, known: Option<RegisterRet>) -> LongEntry
     ensures { result ≡ read variable known }
 {
     let call = KeyedCall {

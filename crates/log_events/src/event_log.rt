@@ -1,12 +1,13 @@
 //! The log of events.
 
-ghost use Rattle.std.specs.Prelude.{◌≡◌, ◌↔◌, ◌<◌, ◌≤◌, ◌∷◌, ◌++◌, ℕ, List, [], All, length, vec_len, slice_index};
+ghost use Rattle.std.specs.Prelude.{◌≡◌, ◌↔◌, ◌<◌, ◌≤◌, ◌∷◌, ◌++◌, ℕ, List, [], All, length, filter_map, vec_len, slice_index};
 ghost use Rattle.std.specs.Prelude.{IsTrue, IfOk, IfNone, IfSome, OnOk, OnErr, Err};
+ghost use Rattle.judge_memory.specs.LongHistories.{IsLongHistory};
 ghost use Rattle.model_objects.specs.Table.{IsRising};
 ghost use Rattle.log_events.specs.declared.event.ClientCall.{ClientCall as Called};
 ghost use Rattle.log_events.specs.declared.event.Event.TheVariants.{Starts, Begins, Ends};
 ghost use Rattle.log_events.specs.Events.{Fits, IsAllowed, MayStand, run_calls};
-ghost use Rattle.log_events.specs.Histories.{clients, history_of};
+ghost use Rattle.log_events.specs.Histories.{clients, history_of, start_entry};
 ghost use Rattle.log_events.specs.Shapes.{called_key};
 ghost use Rattle.log_events.specs.Pending.{IsPending, MayFollow};
 ghost use Rattle.log_events.specs.Origins.{AreOrigins, origins_of as origins_in};
@@ -184,6 +185,30 @@ impl EventLog {
         let _calls = &self.calls;
     }
 
+    /// What the type keeps: the history that the events represent is within the limits of long histories, whatever its length. The method
+    /// does nothing: what it ensures is the law.
+    pub fn history_is_long(&self)
+        ensures { IsLongHistory (history_of self.now) }
+    {
+        let _calls = &self.calls;
+    }
+
+    /// What the keys hold before the first call: the start of each history of the log.
+    pub fn starts(&self) -> &Table<u64>
+        ensures { result.now ≡ filter_map start_entry self.now }
+    {
+        &self.starts
+    }
+
+    /// A copy of it. O(n) for n starts.
+    ///
+    /// Fails for want of memory alone.
+    pub fn copied_starts(&self, alloc: Global) -> Result<Table<u64>, AllocError>
+        ensures { IfOk result (λ starts. starts ≡ filter_map start_entry self.now) }
+    {
+        copied(alloc, self.starts())
+    }
+
     /// How many events there are.
     pub fn events(&self) -> u32
         ensures count { result ≡ length self.now }
@@ -229,7 +254,8 @@ impl EventLog {
     pub fn history(&self, alloc: Global) -> Result<LongHistory, AllocError>
         ensures { IfOk result (λ h. h ≡ history_of self.now) }
     {
-        let start = copied(alloc, &self.starts)?;
+        self.history_is_long();
+        let start = self.copied_starts(alloc)?;
         let outcomes = Outcomes::of(alloc, self)?;
         let sessions = sessions_of(alloc, &outcomes)?;
         LongHistory::of(start, sessions)

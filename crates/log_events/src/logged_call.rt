@@ -97,7 +97,7 @@ impl LoggedCall {
     }
 
     /// The key of a delete that did not fail.
-    pub(crate) fn deleted_key(&self) -> Option<u32>
+    pub fn deleted_key(&self) -> Option<u32>
         ensures { result ≡ deleted_key self.now.call self.now.ending }
     {
         match (self.call, self.ending) {
@@ -108,7 +108,7 @@ impl LoggedCall {
     }
 
     /// The key of a read that got nothing.
-    pub(crate) fn missed_key(&self) -> Option<u32>
+    pub fn missed_key(&self) -> Option<u32>
         ensures { result ≡ missed_key self.now.call self.now.ending }
     {
         match (self.call, self.ending) {

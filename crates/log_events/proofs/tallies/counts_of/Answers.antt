@@ -4,8 +4,8 @@ use Rattle.std.proofs.lemmas.List.{get_or_default, length-take-le, take_more}
 use Rattle.log_events.specs.Steps.Tallies.{AreCounted}
 use Rattle.log_events.proofs.Searching.{keys-found, keys-missed}
 use Rattle.log_events.proofs.Tallying.{counted-more, counted-other, count_in-le}
-use Rattle.log_choices.proofs.left_out.counts_of.Goals as goal
-use Rattle.log_choices.proofs.left_out.counts_of.Goals.{in-Ok, in_default}
+use Rattle.log_events.proofs.tallies.counts_of.Goals as goal
+use Rattle.log_events.proofs.tallies.counts_of.Goals.{in-Ok, in_default}
 
 pub overflow_add-index_mut : goal.overflow_add-index_mut
 overflow_add-index_mut c =

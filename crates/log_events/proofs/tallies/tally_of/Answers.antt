@@ -3,8 +3,8 @@ use Rattle.std.specs.Prelude.{slice_index}
 use Rattle.std.proofs.lemmas.List.{get_or_default, take_more}
 use Rattle.log_events.specs.Steps.Tallies.{IsTally, count_in}
 use Rattle.log_events.proofs.Tallying.{above-first, tally-more, tally-other}
-use Rattle.log_choices.proofs.left_out.tally_of.Goals as goal
-use Rattle.log_choices.proofs.left_out.tally_of.Goals.{then-index-ne0+in_ok-push, else-index-ne0}
+use Rattle.log_events.proofs.tallies.tally_of.Goals as goal
+use Rattle.log_events.proofs.tallies.tally_of.Goals.{then-index-ne0+in_ok-push, else-index-ne0}
 
 pub loop-place-preserved : goal.loop-place-preserved
 loop-place-preserved c =

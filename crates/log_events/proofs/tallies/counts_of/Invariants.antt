@@ -1,6 +1,6 @@
 use Rattle.std.proofs.Common.{take}
 use Rattle.log_events.specs.Steps.Tallies.{AreCounted}
-use Rattle.log_choices.proofs.left_out.counts_of.Given as goal
+use Rattle.log_events.proofs.tallies.counts_of.Given as goal
 
 -- those so far are counted
 abbrev pub invariant-loop-key : goal.invariant-loop-key

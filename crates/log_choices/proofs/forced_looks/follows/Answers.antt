@@ -1,0 +1,8 @@
+use Rattle.std.proofs.Common.{◌<◌, get_or, subst, List, ℕ}
+use Rattle.log_choices.proofs.ForcedKept.{read-precedes}
+use Rattle.log_choices.proofs.forced_looks.follows.Goals as goal
+
+pub returns : goal.returns
+returns c =
+    let below = subst (λ (l : List ℕ). c.args.read.place < get_or l c.args.read.client 0) c.as_slice-past.ensures.value c.if-past-client.false in
+    λ _. read-precedes c.args.log.now c.args.read c.requires.read c.args.write.now c.requires.write below

@@ -1,0 +1,38 @@
+use Rattle.std.proofs.Common.{get_or, subst, take}
+use Rattle.std.proofs.lemmas.List.{take_more}
+use Rattle.std.proofs.lemmas.List.Elements.{Contains-get_or}
+use Rattle.log_choices.specs.ForcedSteps.{IsLeft}
+use Rattle.log_choices.specs.declared.forced_kept.Delete.{Delete}
+use Rattle.log_choices.proofs.ForcedLooks.{left-one, left-out}
+use Rattle.log_choices.proofs.forced_plan.Plan.left_of.Goals as goal
+use Rattle.log_choices.proofs.forced_plan.Plan.left_of.Goals.{then-not-is_out+in-NoneLeft, else-not-is_out}
+
+abbrev none : Delete
+none = record { key = 0; place = 0; number = 0 }
+
+pub is_out-requires-clause-listed : goal.is_out-requires-clause-listed
+is_out-requires-clause-listed c =
+    (c.requires.deletes (get_or c.args.deletes.now c.loop-delete.delete-index none)
+    (Contains-get_or c.args.deletes.now c.loop-delete.delete-index none c.loop-delete-test.true)).0
+
+pub is_out-requires-clause-key : goal.is_out-requires-clause-key
+is_out-requires-clause-key c =
+    (c.requires.deletes (get_or c.args.deletes.now c.loop-delete.delete-index none)
+    (Contains-get_or c.args.deletes.now c.loop-delete.delete-index none c.loop-delete-test.true)).1
+
+pub loop-delete-preserved : goal.loop-delete-preserved
+loop-delete-preserved c =
+    let es = c.args.log.now in
+    let r = c.args.read.place in
+    let deletes = c.args.deletes.now in
+    let i = c.loop-delete.delete-index in
+    let d = get_or deletes i none in
+    let was = c.loop-delete.invariant in
+    elim c.if-not-is_out.branch [
+      | then-not-is_out+in-NoneLeft w ↦
+          rw (take_more deletes i none c.loop-delete-test.true, w.left-is)
+          (left-one es r (take i deletes) d (subst (IsLeft es r (take i deletes)) w.in-NoneLeft.is was))
+      | else-not-is_out w ↦
+          rw (take_more deletes i none c.loop-delete-test.true, w.left-is)
+          (left-out es r (take i deletes) d c.loop-delete.left was (c.is_out.ensures w.if-not-is_out.false))
+    ]

@@ -1,0 +1,7 @@
+use Rattle.std.proofs.Common.{take}
+use Rattle.log_choices.specs.ForcedSteps.{IsLeft}
+use Rattle.log_choices.proofs.forced_plan.Plan.left_of.Given as goal
+
+-- those left so far
+abbrev pub invariant-loop-delete : goal.invariant-loop-delete
+invariant-loop-delete l = IsLeft l.log l.read.place (take l.delete-index l.deletes) l.left

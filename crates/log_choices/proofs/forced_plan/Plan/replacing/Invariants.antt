@@ -1,0 +1,7 @@
+use Rattle.std.specs.Prelude.{All}
+use Rattle.log_choices.specs.ForcedSteps.{IsReplacing}
+use Rattle.log_choices.proofs.forced_plan.Plan.replacing.Given as goal
+
+-- the writes so far
+abbrev pub invariant-loop-client : goal.invariant-loop-client
+invariant-loop-client l = All (IsReplacing l.log l.self.writes.items l.read.key l.read.place) l.numbers.items

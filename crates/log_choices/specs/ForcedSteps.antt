@@ -1,0 +1,137 @@
+-- What the pass over a log that finds what is forced keeps.
+use Rattle.std.specs.Prelude.{◌≡◌, ◌≢◌, ⊤, ◌<◌, ◌≤◌, ℕ, suc, Bool, true, false, List, All, Option, Some, None, filter_map, slice_get, slice_index, IsSortedByKey, Contains}
+use Rattle.std.specs.Ordering.{nat_cmp}
+use Rattle.std.specs.declared.vec.Vec.{Vec}
+use Rattle.log_events.specs.declared.event.ClientCall.{ClientCall}
+use Rattle.log_events.specs.declared.event.ClientCall.TheVariants.{WriteTo, ReadOf, DeleteOf}
+use Rattle.log_events.specs.declared.event.Ending.{Ending}
+use Rattle.log_events.specs.declared.event.Ending.TheVariants.{GotNothing, Failed, Lost}
+use Rattle.log_events.specs.declared.event.Event.{Event}
+use Rattle.log_events.specs.declared.event.Event.TheVariants.{Begins}
+use Rattle.log_events.specs.declared.limits.TheConstants.{MAX_EVENTS, MAX_NAME}
+use Rattle.log_events.specs.Events.{Call, IsAt, IsEnded}
+use Rattle.log_events.specs.Histories.{start_entry}
+use Rattle.log_choices.specs.Choices.{BeginsKeptDelete, IsCandidate, IsNullRead}
+use Rattle.log_choices.specs.Forced.{Comes, IsOut, LacksCandidates}
+use Rattle.log_choices.specs.declared.forced_kept.Kept.{Kept}
+use Rattle.log_choices.specs.declared.forced_kept.Delete.{Delete}
+use Rattle.log_choices.specs.declared.forced_looks.NullRead.{NullRead}
+use Rattle.log_choices.specs.declared.forced_looks.Left.{Left}
+use Rattle.log_choices.specs.declared.forced_looks.Left.TheVariants.{NoneLeft, OneLeft, MoreLeft}
+use Rattle.log_choices.specs.declared.forced_looks.Look.{Look}
+use Rattle.log_choices.specs.declared.forced_looks.Look.TheVariants.{Open, StartAlone, DeleteAlone, Impossible}
+use Rattle.log_choices.specs.declared.forced_plan.Plan.{Plan}
+use Rattle.log_choices.specs.declared.forced_pass.Found.{Found}
+use Rattle.log_choices.specs.declared.seen.Seen.{Seen}
+use Rattle.log_choices.specs.Seen.{seen_by}
+
+-- the key of a write or a delete that did not fail, and the value that it writes
+abbrev pub written_by : ClientCall → Option Ending → Option (ℕ × Option ℕ)
+written_by call (Some Failed) = None
+written_by (ReadOf x) ending = None
+written_by (WriteTo x v) ending = Some (x, Some v)
+written_by (DeleteOf x) ending = Some (x, None)
+
+-- the key and the place of a delete that did not fail
+abbrev pub spot_in : ℕ → Option (ℕ × Option ℕ) → Option (ℕ × ℕ)
+spot_in place None = None
+spot_in place (Some (x, Some v)) = None
+spot_in place (Some (x, None)) = Some (x, place)
+
+abbrev pub deleted_spot : Call → Option (ℕ × ℕ)
+deleted_spot a = spot_in a.place (written_by a.call a.ending)
+
+abbrev pub spot_of : Delete → ℕ × ℕ
+spot_of d = (d.key, d.place)
+
+-- the call that writes a value to a key, or deletes it
+abbrev pub writing : ℕ → Option ℕ → ClientCall
+writing x (Some v) = WriteTo x v
+writing x None = DeleteOf x
+
+-- what a null read can have seen, by which deletes are left, and whether the start is
+abbrev pub look_by : Left → Bool → Look
+look_by NoneLeft true = StartAlone
+look_by NoneLeft false = Impossible
+look_by (OneLeft d) false = DeleteAlone d
+look_by (OneLeft d) true = Open
+look_by MoreLeft b = Open
+
+-- a call ended, and neither failed nor was lost
+abbrev pub IsAnswered : Option Ending → Type 0
+IsAnswered ending = (ending ≢ None) × (ending ≢ Some Failed) × (ending ≢ Some Lost)
+
+module _ (es : List Event) where
+  -- each count is one more than the place of a call of that client that comes before the call at the place q
+  abbrev pub IsPast : List ℕ → ℕ → Type 0
+  IsPast counts q = (c p : ℕ) → slice_index counts c ≡ suc p → ((call : ClientCall) × IsAt es p (Begins c call)) × Comes false es p q
+
+  -- of each call that the client begins at the place b or after it
+  abbrev pub IsPastFrom : ℕ → ℕ → List ℕ → Type 0
+  IsPastFrom client b counts = (q : ℕ) (call : ClientCall) → b ≤ q → IsAt es q (Begins client call) → IsPast counts q
+
+  -- for each client what comes before its calls from the place b on
+  abbrev pub ArePasts : {Z : Type 0} → ℕ → List (Vec ℕ Z) → Type 0
+  ArePasts {Z} b pasts = (client : ℕ) (past : Vec ℕ Z) → slice_get pasts client ≡ Some past → IsPastFrom client b past.items
+
+  -- a write or a delete that did not fail, and what comes before it
+  pub record IsKeptWrite (w : Kept) : Type 0 where
+    pub begun : IsAt es w.place (Begins w.client (writing w.key w.value))
+    pub not_failed : (k : ℕ) → ¬ IsEnded es w.client (writing w.key w.value) w.place k Failed
+    pub not_lost : w.is_lost ≡ false → (k : ℕ) → ¬ IsEnded es w.client (writing w.key w.value) w.place k Lost
+    pub small : w.place < MAX_EVENTS
+    pub past : IsPast w.past.items w.place
+
+  -- the deletes that did not fail, by key
+  pub record AreDeletes (deletes : List Delete) : Type 0 where
+    pub listed : All (λ d. BeginsKeptDelete es d.key d.place) deletes
+    pub lists : (x p : ℕ) → BeginsKeptDelete es x p → (d : Delete) × Contains deletes d × (d.key ≡ x) × (d.place ≡ p)
+    pub sorted : IsSortedByKey (λ d. d.key) nat_cmp deletes
+
+  -- what the pass looks up
+  pub record IsPlan (plan : Plan) : Type 0 where
+    pub writes : All IsKeptWrite plan.writes.items
+    pub deletes : AreDeletes plan.deletes.items
+    pub starts : plan.starts ≡ filter_map start_entry es
+
+  -- a read got nothing
+  pub record GetsNothing (read : NullRead) : Type 0 where
+    pub small : read.key ≤ MAX_NAME
+    pub ends : ℕ
+    pub ended : IsEnded es read.client (ReadOf read.key) read.place ends GotNothing
+
+  -- the write of that number is of the key, and comes before the call at the place r
+  abbrev pub IsReplacing : List Kept → ℕ → ℕ → ℕ → Type 0
+  IsReplacing writes x r number = (w : Kept) × (slice_get writes number ≡ Some w) × (w.key ≡ x) × Comes false es w.place r
+
+  -- of some deletes none, one or more may be what the read at the place r saw
+  abbrev pub IsLeft : ℕ → List Delete → Left → Type 0
+  IsLeft r deletes NoneLeft = All (λ d. IsOut false es r (Some d.place)) deletes
+  IsLeft r deletes (OneLeft e) = Contains deletes e × All (λ d. d.place ≢ e.place → IsOut false es r (Some d.place)) deletes
+  IsLeft r deletes MoreLeft = ⊤
+
+  -- the null read that begins at the place r is left with one candidate
+  pub record IsLeftWith (r : ℕ) (c : Option ℕ) : Type 0 where
+    pub client : ℕ
+    pub key : ℕ
+    pub ends : ℕ
+    pub null : IsNullRead es client key r ends
+    pub candidate : IsCandidate false es key ends c
+    pub others : (d : Option ℕ) → IsCandidate false es key ends d → d ≢ c → IsOut false es r d
+
+  -- what is found of the read that begins at the place r
+  abbrev pub IsLook : ℕ → Look → Type 0
+  IsLook r Open = ⊤
+  IsLook r StartAlone = IsLeftWith r None
+  IsLook r (DeleteAlone d) = IsLeftWith r (Some d.place)
+  IsLook r Impossible = LacksCandidates false es r
+
+  -- no null read is left with no candidate, or the one that begins at a place
+  abbrev pub IsImpossible : Option ℕ → Type 0
+  IsImpossible None = ⊤
+  IsImpossible (Some r) = LacksCandidates false es r
+
+  -- what a pass has found
+  pub record IsFound (found : Found) : Type 0 where
+    pub seen : All (λ entry. IsLeftWith entry.0 (seen_by entry.1)) found.seen
+    pub impossible : IsImpossible found.impossible
