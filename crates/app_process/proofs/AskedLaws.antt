@@ -13,17 +13,17 @@ use Rattle.app_orders.specs.declared.manner.Asked.{Asked}
 use Rattle.app_orders.specs.declared.manner.Manner.{Manner}
 use Rattle.app_orders.specs.declared.order.Order.{Order}
 use Rattle.app_orders.specs.declared.order.Order.TheVariants.{JudgeLines}
-use Rattle.app_process.specs.Dressing.{is_plain, plainly}
-use Rattle.app_process.specs.Endings.{EndsInput, EndsLines, EndsOrder, EndsTask}
-use Rattle.app_process.specs.Process.{EndsAsked, EndsFiles, EndsRun, EndsWords, GoesToFile, GoesToOutput, IsAfterCommand, IsPainted, NamesNoFile}
+use Rattle.app_process.specs.Dressing.{IsPainted, is_plain, plainly}
+use Rattle.app_process.specs.Endings.{EndsInput, EndsLines, EndsOrder, EndsTask, IsOfWhole}
+use Rattle.app_process.specs.Process.{EndsAsked, EndsFiles, EndsRun, EndsWords, GoesToFile, GoesToOutput, IsAfterCommand, NamesNoFile}
 use Rattle.app_process.specs.Usages.{EndsUsage}
 use Rattle.app_process.proofs.NamedFiles.{NamesFirst, names_first}
 
 module _ (label : Option (List ℕ)) (at_terminal : Bool) where
   pub as_whole : (order : Order) (detail : Detail) (manner : Manner) (reader before after said_before said_after : Option (List ℕ)) (status : ℕ)
-      → EndsOrder label at_terminal order detail manner reader before after said_before said_after status
+      → IsOfWhole order → EndsOrder label at_terminal order detail manner reader before after said_before said_after status
       → EndsInput label at_terminal order detail manner reader before after said_before said_after status
-  as_whole order detail manner reader before after said_before said_after status ends = inl ends
+  as_whole order detail manner reader before after said_before said_after status whole ends = inl (whole, ends)
 
   pub by_lines : (order : Order) (judging : LineJudging) (detail : Detail) (manner : Manner) (reader before after said_before said_after : Option (List ℕ))
       (status : ℕ) → order ≡ JudgeLines judging → EndsLines label judging reader before after said_before said_after status
@@ -32,7 +32,7 @@ module _ (label : Option (List ℕ)) (at_terminal : Bool) where
 
 module _ (label : Option (List ℕ)) (said_at_terminal shown_at_terminal : Bool) where
   pub output_as_it_is : (asked : Asked) (painted : Bool) (reader before after said_before said_after : Option (List ℕ)) (status : ℕ)
-      → IsPainted asked.manner.coloring shown_at_terminal painted → is_plain label painted ≡ true
+      → IsPainted asked.task asked.manner.coloring shown_at_terminal painted → is_plain label painted ≡ true
       → EndsTask label said_at_terminal asked.task asked.manner reader before after said_before said_after status
       → GoesToOutput label said_at_terminal shown_at_terminal asked reader before after said_before said_after status
   output_as_it_is asked painted reader before after said_before said_after status is_painted plain ends =
@@ -40,7 +40,7 @@ module _ (label : Option (List ℕ)) (said_at_terminal shown_at_terminal : Bool)
       (painted, is_painted, subst P (sym plain) ends)
 
   pub output_dressed : (asked : Asked) (painted : Bool) (reader before after said_before said_after : Option (List ℕ)) (status : ℕ)
-      → IsPainted asked.manner.coloring shown_at_terminal painted → is_plain label painted ≡ false
+      → IsPainted asked.task asked.manner.coloring shown_at_terminal painted → is_plain label painted ≡ false
       → EndsTask label said_at_terminal asked.task asked.manner reader None None said_before said_after status
       → GoesToOutput label said_at_terminal shown_at_terminal asked reader before after said_before said_after status
   output_dressed asked painted reader before after said_before said_after status is_painted plain ends =

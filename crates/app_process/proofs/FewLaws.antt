@@ -120,9 +120,9 @@ module _ (label : Option (List ℕ)) (at : Bool) where
 
   few_task : (task : Task) (manner : Manner) (reader a b c d : Option (List ℕ)) (status : ℕ)
       → EndsTask label at task manner reader a b c d status → status ≤ 6
-  few_task (OfInput order detail) manner reader a b c d status (inl (inl answers)) =
+  few_task (OfInput order detail) manner reader a b c d status (inl (whole, inl answers)) =
       by answers.is_status (few_after manner.least_reads answers.reads _ (few_outcome answers.outcome))
-  few_task (OfInput order detail) manner reader a b c d status (inl (inr refused)) = few_refuses label at detail _ refused.error c d status refused.refuses
+  few_task (OfInput order detail) manner reader a b c d status (inl (whole, inr refused)) = few_refuses label at detail _ refused.error c d status refused.refuses
   few_task (OfInput order detail) manner reader a b c d status (inr (judging, is_order, inl answers)) = by answers.is_status (few_outcome answers.outcome)
   few_task (OfInput order detail) manner reader a b c d status (inr (judging, is_order, inr failed)) = few_tells label failed.error c d status failed.tells
   few_task (OfLog order) manner reader a b c d status (inl answers) =
@@ -168,9 +168,9 @@ few_words words terminals reader a b c d status (inr misuse) = few_misuse Unseen
 
 few_file : (words : List Text) (terminals : Terminals) (label a b c d : Option (List ℕ)) (status : ℕ)
     → EndsFile words terminals label a b c d status → status ≤ 6
-few_file words terminals label a b c d status (reader, inl (sight, asked, known, is_line, is_known, ends)) =
+few_file words terminals label a b c d status (reader, inl (sight, asked, known, looks, is_line, is_known, ends)) =
     few_asked label terminals.error terminals.output asked known a b c d status ends
-few_file words terminals label a b c d status (reader, inr (inl (sight, misuse))) = few_misuse sight words a b c d status misuse
+few_file words terminals label a b c d status (reader, inr (inl (sight, looks, misuse))) = few_misuse sight words a b c d status misuse
 few_file words terminals label a b c d status (reader, inr (inr (is_status, same, said))) = by is_status (lit≤ tt)
 
 few_worse : (one other : ℕ) → one ≤ 6 → other ≤ 6 → worse one other ≤ 6
@@ -187,9 +187,9 @@ few_each words terminals several (name ∷ names) a b c d worst status few (betw
 -- of words that name files
 few_files : (words : List Text) (terminals : Terminals) (further : List Text) (a b c d : Option (List ℕ)) (status : ℕ)
     → EndsFiles words terminals further a b c d status → status ≤ 6
-few_files words terminals further a b c d status (inl (files, are_files, each)) =
+few_files words terminals further a b c d status (inl (asks, (files, are_files, each))) =
     few_each words terminals (are_several files) files a b c d 0 status (lit≤ tt) each
-few_files words terminals further a b c d status (inr (inl misuse)) = few_misuse Unseen words a b c d status misuse
+few_files words terminals further a b c d status (inr (inl (none, misuse))) = few_misuse Unseen words a b c d status misuse
 few_files words terminals further a b c d status (inr (inr (sight, asked, is_line, of_one, several, is_status, same, said))) = by is_status (lit≤ tt)
 
 -- of any words

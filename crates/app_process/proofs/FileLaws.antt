@@ -10,7 +10,7 @@ use Rattle.app_orders.specs.declared.manner.Asked.{Asked}
 use Rattle.app_command_line.specs.declared.sight.Sight.{Sight}
 use Rattle.app_command_line.specs.declared.sight.Sight.TheVariants.{Unseen}
 use Rattle.app_process.specs.declared.terminals.Terminals.{Terminals}
-use Rattle.app_process.specs.Process.{EndAll, EndEach, EndsAsked, EndsFile, EndsFiles, EndsInputOf, EndsMisuse, IsKnownOf, IsOfOne, NameSeveral, SaysSeveral, label_of}
+use Rattle.app_process.specs.Process.{AskForLines, AskForLook, AskForNone, EndAll, EndEach, EndsAsked, EndsFile, EndsFiles, EndsInputOf, EndsMisuse, IsKnownOf, IsOfOne, NameSeveral, SaysSeveral, is_seen, label_of, reads_lines}
 use Rattle.app_process.specs.Saying.{SaysSome}
 use Rattle.app_process.specs.Statuses.{worse}
 
@@ -18,6 +18,20 @@ use Rattle.app_process.specs.Statuses.{worse}
 pub not_asked : (sight : Sight) (words : List Text) (asked : Asked) (before after said_before said_after : Option (List ℕ)) (status : ℕ)
     → AsksNothing sight words → IsCommandLine sight asked words → EndsMisuse sight words before after said_before said_after status
 not_asked sight words asked before after said_before said_after status none is_line = absurd (none asked is_line)
+
+-- the words ask for judging lines; or they do not, on an input that was not looked at, and then it is looked at
+pub ask_for_lines : (words : List Text) (asked : Asked) → IsCommandLine Unseen asked words → reads_lines asked.task ≡ true → AskForLines words
+ask_for_lines words asked is_line lines = (asked, is_line, lines)
+
+pub ask_for_other : (words : List Text) (asked : Asked) → IsCommandLine Unseen asked words → reads_lines asked.task ≡ false → AskForLook words
+ask_for_other words asked is_line other = inr (asked, is_line, other)
+
+pub ask_for_nothing : (words : List Text) → AsksNothing Unseen words → AskForLook words
+ask_for_nothing words none = inl none
+
+-- words that ask for nothing on an input of any look
+pub none_unseen : (words : List Text) → AskForNone words → AsksNothing Unseen words
+none_unseen words none = none Unseen
 
 -- a reader is known of itself
 pub known_itself : (reader : Option (List ℕ)) → IsKnownOf reader reader
@@ -33,25 +47,25 @@ known_again (Some xs) (Some ys) bytes consumed = ap Some (sym consumed)
 module _ (words : List Text) (terminals : Terminals) (label : Option (List ℕ)) where
   -- what the words ask for is done, on what a reader has
   pub lines_end : (asked : Asked) (at : Bool) (reader before after said_before said_after : Option (List ℕ)) (status : ℕ) → at ≡ terminals.error
-      → IsCommandLine Unseen asked words → EndsAsked label at terminals.output asked reader before after said_before said_after status
+      → IsCommandLine Unseen asked words → reads_lines asked.task ≡ true → EndsAsked label at terminals.output asked reader before after said_before said_after status
       → EndsInputOf words terminals label reader before after said_before said_after status
-  lines_end asked at reader before after said_before said_after status is_at is_line ends =
+  lines_end asked at reader before after said_before said_after status is_at is_line lines ends =
       let P : Bool → Type 0 = λ b. EndsAsked label b terminals.output asked reader before after said_before said_after status in
-      inl (Unseen, asked, reader, is_line, known_itself reader, subst P is_at ends)
+      inl (Unseen, asked, reader, inl (refl, (asked, is_line, lines)), is_line, known_itself reader, subst P is_at ends)
 
   pub looked_at : (sight : Sight) (asked : Asked) (at : Bool) (reader known before after said_before said_after : Option (List ℕ)) (status : ℕ)
-      → at ≡ terminals.error → known ≡ reader → IsCommandLine sight asked words
+      → AskForLook words → is_seen sight ≡ true → at ≡ terminals.error → known ≡ reader → IsCommandLine sight asked words
       → EndsAsked label at terminals.output asked known before after said_before said_after status
       → EndsInputOf words terminals label reader before after said_before said_after status
-  looked_at sight asked at reader known before after said_before said_after status is_at is_known is_line ends =
+  looked_at sight asked at reader known before after said_before said_after status looks seen is_at is_known is_line ends =
       let P : Bool → Type 0 = λ b. EndsAsked label b terminals.output asked known before after said_before said_after status in
       let Q : Option (List ℕ) → Type 0 = λ r. EndsAsked label terminals.error terminals.output asked r before after said_before said_after status in
-      inl (sight, asked, reader, is_line, known_itself reader, subst Q is_known (subst P is_at ends))
+      inl (sight, asked, reader, inr (seen, looks), is_line, known_itself reader, subst Q is_known (subst P is_at ends))
 
   pub misused : (sight : Sight) (reader before after said_before said_after : Option (List ℕ)) (status : ℕ)
-      → EndsMisuse sight words before after said_before said_after status
+      → AskForLook words → is_seen sight ≡ true → EndsMisuse sight words before after said_before said_after status
       → EndsInputOf words terminals label reader before after said_before said_after status
-  misused sight reader before after said_before said_after status ends = inr (inl (sight, ends))
+  misused sight reader before after said_before said_after status looks seen ends = inr (inl (sight, inr (seen, looks), ends))
 
   pub not_read : (reader output said_before said_after : Option (List ℕ)) (status : ℕ) → status ≡ 3 → SaysSome said_before said_after
       → EndsInputOf words terminals label reader output output said_before said_after status
@@ -67,8 +81,8 @@ module _ (words : List Text) (terminals : Terminals) (label : Option (List ℕ))
   pub read_again : (reader rest before after said_before said_after : Option (List ℕ)) (bytes : List ℕ) (status : ℕ) → Consumes reader rest bytes
       → EndsInputOf words terminals label (prepend_known bytes rest) before after said_before said_after status
       → EndsInputOf words terminals label reader before after said_before said_after status
-  read_again reader rest before after said_before said_after bytes status consumed (inl (sight, asked, known, is_line, is_known, ends)) =
-      inl (sight, asked, known, is_line, known_more reader rest bytes consumed known is_known, ends)
+  read_again reader rest before after said_before said_after bytes status consumed (inl (sight, asked, known, looks, is_line, is_known, ends)) =
+      inl (sight, asked, known, looks, is_line, known_more reader rest bytes consumed known is_known, ends)
   read_again reader rest before after said_before said_after bytes status consumed (inr other) = inr other
 
   pub read_ends : (reader before after said_before said_after : Option (List ℕ)) (status : ℕ)
@@ -143,13 +157,14 @@ module _ (words : List Text) (terminals : Terminals) (several : Bool) (further :
 
 -- what all that was done over files comes to
 module _ (words : List Text) (terminals : Terminals) (further : List Text) (before after said_before said_after : Option (List ℕ)) (status : ℕ) where
-  pub each_ends : EndAll words terminals further before after said_before said_after status
+  pub each_ends : (sight : Sight) (asked : Asked) → IsCommandLine sight asked words
+      → EndAll words terminals further before after said_before said_after status
       → EndsFiles words terminals further before after said_before said_after status
-  each_ends all = inl all
+  each_ends sight asked is_line all = inl ((sight, asked, is_line), all)
 
-  pub misuse_ends : EndsMisuse Unseen words before after said_before said_after status
+  pub misuse_ends : AskForNone words → EndsMisuse Unseen words before after said_before said_after status
       → EndsFiles words terminals further before after said_before said_after status
-  misuse_ends misuse = inr (inl misuse)
+  misuse_ends none misuse = inr (inl (none, misuse))
 
 pub several_ends : (words : List Text) (terminals : Terminals) (further : List Text) (output said_before said_after : Option (List ℕ)) (status : ℕ)
     (sight : Sight) (asked : Asked) (several : Bool) → IsCommandLine sight asked words → IsOfOne asked → NameSeveral further several → several ≡ true

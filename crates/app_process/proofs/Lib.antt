@@ -6,6 +6,7 @@ pub mod PageLaws
 pub mod NamedFiles
 pub mod AskedLaws
 pub mod FileLaws
+pub mod ChoiceLaws
 pub mod FewLaws
 pub mod UsageLaws
 pub mod ReadLaws

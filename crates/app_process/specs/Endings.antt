@@ -39,6 +39,10 @@ use Rattle.app_process.specs.LineRemarks.{SaysLineRemarks}
 use Rattle.app_process.specs.Saying.{Known, said_lines}
 use Rattle.app_process.specs.Statuses.{status_after, wants_counts}
 
+-- an order on an input as a whole, and not on each of its lines
+abbrev pub IsOfWhole : Order → Type 0
+IsOfWhole order = (judging : LineJudging) → order ≢ JudgeLines judging
+
 -- what may be said of how much a run asks: nothing where that is not wanted
 abbrev pub SaysCounts : Bool → Known → Known → Type 0
 SaysCounts wanted before after = (text : List ℕ) × Appends before after text × (wanted ≡ false → text ≡ [])
@@ -195,10 +199,10 @@ module _ (label : Option (List ℕ)) (at_terminal : Bool) where
   EndsPage page detail reader before after said_before said_after status =
       EndsPageOf page.of page.most detail reader before after said_before said_after status
 
-  -- an input is read whole, or its lines are judged one after the other
+  -- the lines of an input are judged one after the other where that is the order, and else it is read whole
   abbrev pub EndsInput : Order → Detail → Manner → Known → Known → Known → Known → Known → ℕ → Type 0
   EndsInput order detail manner reader before after said_before said_after status =
-      EndsOrder label at_terminal order detail manner reader before after said_before said_after status
+      (IsOfWhole order × EndsOrder label at_terminal order detail manner reader before after said_before said_after status)
       ⊎ ((judging : LineJudging) × (order ≡ JudgeLines judging) × EndsLines label judging reader before after said_before said_after status)
 
   -- a task is carried out, whatever it is

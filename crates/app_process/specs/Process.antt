@@ -4,11 +4,12 @@ use Rattle.std.specs.Prelude.{◌≡◌, ◌≢◌, ◌⊎◌, ⊤, ℕ, List, [
 use Rattle.std.specs.Io.KnownBytes.{Appends}
 use Rattle.clap.specs.Words.{Text, fault_of}
 use Rattle.app_command_line.specs.CommandLine.{AsksNothing, IsCommandLine, IsUsageFor, command_line}
-use Rattle.app_orders.specs.declared.coloring.Coloring.{Coloring}
-use Rattle.app_orders.specs.declared.coloring.Coloring.TheVariants.{Auto, Always, Never}
 use Rattle.app_orders.specs.declared.detail.Detail.{Detail}
 use Rattle.app_orders.specs.declared.manner.Asked.{Asked}
-use Rattle.app_orders.specs.declared.order.Task.TheVariants.{OfPage}
+use Rattle.app_orders.specs.declared.order.Order.{Order}
+use Rattle.app_orders.specs.declared.order.Order.TheVariants as orders
+use Rattle.app_orders.specs.declared.order.Task.{Task}
+use Rattle.app_orders.specs.declared.order.Task.TheVariants.{OfInput, OfLog, OfPage}
 use Rattle.app_orders.specs.declared.page.Page.{Page}
 use Rattle.app_command_line.specs.Misuses.{fault_text}
 use Rattle.app_command_line.specs.Options.{AreFiles}
@@ -16,23 +17,17 @@ use Rattle.app_command_line.specs.declared.command.Usage.{Usage}
 use Rattle.app_command_line.specs.declared.sight.Sight.{Sight}
 use Rattle.app_command_line.specs.declared.sight.Sight.TheVariants.{Unseen}
 use Rattle.app_process.specs.declared.terminals.Terminals.{Terminals}
-use Rattle.app_process.specs.Dressing.{is_plain, plainly}
+use Rattle.app_process.specs.Dressing.{IsPainted, is_plain, plainly}
 use Rattle.app_process.specs.Endings.{EndsTask}
 use Rattle.app_process.specs.Saying.{Known, SaysSome}
 use Rattle.app_process.specs.Statuses.{worse}
 use Rattle.app_process.specs.Usages.{EndsUsage}
 
--- whether answers are coloured: where no colour is named, only on a terminal
-abbrev pub IsPainted : Coloring → Bool → Bool → Type 0
-IsPainted Always at_terminal painted = painted ≡ true
-IsPainted Never at_terminal painted = painted ≡ false
-IsPainted Auto at_terminal painted = painted ≡ true → at_terminal ≡ true
-
 module _ (label : Option (List ℕ)) (said_at_terminal shown_at_terminal : Bool) where
   -- the answer goes to the output. Where its lines are dressed, with a label or with colours, no more is known of it
   abbrev pub GoesToOutput : Asked → Known → Known → Known → Known → Known → ℕ → Type 0
   GoesToOutput asked reader before after said_before said_after status =
-      (painted : Bool) × IsPainted asked.manner.coloring shown_at_terminal painted
+      (painted : Bool) × IsPainted asked.task asked.manner.coloring shown_at_terminal painted
       × EndsTask label said_at_terminal asked.task asked.manner reader (plainly (is_plain label painted) before) (plainly (is_plain label painted) after)
       said_before said_after status
 
@@ -68,14 +63,37 @@ EndsWords words terminals reader before after said_before said_after status =
 abbrev pub IsKnownOf : Known → Known → Type 0
 IsKnownOf reader known = IfSome reader (λ bytes. known ≡ Some bytes)
 
+-- whether the lines of an input are judged, each of which is to hold a history
+abbrev pub judges_lines : Order → Bool
+judges_lines (orders.JudgeLines judging) = true
+judges_lines _ = false
+
+abbrev pub reads_lines : Task → Bool
+reads_lines (OfInput order detail) = judges_lines order
+reads_lines _ = false
+
+-- how an input among files looks to the words: it is not looked at where the words alone ask for judging its lines, and else it is
+abbrev pub AskForLines : List Text → Type 0
+AskForLines words = (asked : Asked) × IsCommandLine Unseen asked words × (reads_lines asked.task ≡ true)
+
+abbrev pub AskForLook : List Text → Type 0
+AskForLook words = AsksNothing Unseen words ⊎ ((asked : Asked) × IsCommandLine Unseen asked words × (reads_lines asked.task ≡ false))
+
+abbrev pub is_seen : Sight → Bool
+is_seen Unseen = false
+is_seen _ = true
+
+abbrev pub IsSight : List Text → Sight → Type 0
+IsSight words sight = ((sight ≡ Unseen) × AskForLines words) ⊎ ((is_seen sight ≡ true) × AskForLook words)
+
 module _ (words : List Text) (terminals : Terminals) (label : Option (List ℕ)) where
   -- an input among files: what the words ask for on an input that looks as it does is done; or they ask for nothing on it, which is said; or it
   -- can't be read, which is said
   abbrev pub EndsInputOf : Known → Known → Known → Known → Known → ℕ → Type 0
   EndsInputOf reader before after said_before said_after status =
-      ((sight : Sight) × (asked : Asked) × (known : Known) × IsCommandLine sight asked words × IsKnownOf reader known
+      ((sight : Sight) × (asked : Asked) × (known : Known) × IsSight words sight × IsCommandLine sight asked words × IsKnownOf reader known
       × EndsAsked label terminals.error terminals.output asked known before after said_before said_after status)
-      ⊎ (((sight : Sight) × EndsMisuse sight words before after said_before said_after status)
+      ⊎ (((sight : Sight) × IsSight words sight × EndsMisuse sight words before after said_before said_after status)
       ⊎ ((status ≡ 3) × (after ≡ before) × SaysSome said_before said_after))
 
   -- a file, of whose bytes no contract tells
@@ -123,11 +141,18 @@ SaysSeveral before after = (after ≡ before) ⊎ Appends before after several_t
 abbrev pub IsOfOne : Asked → Type 0
 IsOfOne asked = (asked.manner.to_file ≡ true) ⊎ ((page : Page) × (detail : Detail) × (asked.task ≡ OfPage page detail))
 
--- a run whose words name files: each is carried out; or the words ask for nothing, or for one answer of several files, which is said
+-- words that ask for something on an input of some look, and words that do so on none
+abbrev pub AskForSome : List Text → Type 0
+AskForSome words = (sight : Sight) × (asked : Asked) × IsCommandLine sight asked words
+
+abbrev pub AskForNone : List Text → Type 0
+AskForNone words = (sight : Sight) → AsksNothing sight words
+
+-- a run whose words name files: each is carried out; or the words ask for nothing on any, or for one answer of several files, which is said
 abbrev pub EndsFiles : List Text → Terminals → List Text → Known → Known → Known → Known → ℕ → Type 0
 EndsFiles words terminals further before after said_before said_after status =
-    EndAll words terminals further before after said_before said_after status
-    ⊎ (EndsMisuse Unseen words before after said_before said_after status
+    (AskForSome words × EndAll words terminals further before after said_before said_after status)
+    ⊎ ((AskForNone words × EndsMisuse Unseen words before after said_before said_after status)
     ⊎ ((sight : Sight) × (asked : Asked) × IsCommandLine sight asked words × IsOfOne asked × NameSeveral further true
     × (status ≡ 2) × (after ≡ before) × SaysSeveral said_before said_after))
 

@@ -2,9 +2,9 @@
 
 ghost use Rattle.std.specs.Prelude.{◌≡◌, ◌≢◌, ◌⊎◌, [], None, Some, false, true};
 ghost use Rattle.std.specs.Option.{option_copied};
-ghost use Rattle.app_process.specs.Dressing.{is_plain};
+ghost use Rattle.app_process.specs.Dressing.{IsPainted, is_plain};
 ghost use Rattle.app_process.specs.Endings.{EndsInput, EndsTask};
-ghost use Rattle.app_process.specs.Process.{EndsAsked, GoesToFile, GoesToOutput, IsPainted};
+ghost use Rattle.app_process.specs.Process.{EndsAsked, GoesToFile, GoesToOutput};
 
 use crate::answer_writer::{AnswerWriter, Dress, DressedWriter};
 use crate::counted::counted_at;
@@ -12,6 +12,7 @@ use crate::line_process::judge_lines_of_process;
 use crate::log_process::status_of_log;
 use crate::order_process::status_of_order;
 use crate::page_process::write_page_of_process;
+use crate::painting::is_in_words;
 use crate::place::Place;
 use crate::progress::Progress;
 use crate::saving::save;
@@ -174,7 +175,7 @@ fn status_with_output<
     ensures { GoesToOutput (option_copied given.now.place.label) given.now.place.is_terminal given.now.terminals.output asked.now
         (R.remaining reader) (W.contents writer) (W.contents result.0) (E.said errors.old) (E.said errors.new) result.1 }
 {
-    let is_painted = is_painted(given, asked.manner.coloring);
+    let is_painted = is_painted(given, &asked.task, asked.manner.coloring);
     if is_plain(given.place.label, is_painted) {
         answer_plainly(given, reader, writer, errors, asked)
     } else {
@@ -253,14 +254,17 @@ fn status_with_file<
     }
 }
 
-// Whether the words of answers are coloured.
-fn is_painted<P: Env + AllocGlobal>(given: &Given<'_, P>, coloring: Coloring) -> bool
-    ensures { IsPainted coloring given.now.terminals.output result }
+// Whether the words of an answer are coloured.
+fn is_painted<P: Env + AllocGlobal>(given: &Given<'_, P>, task: &Task, coloring: Coloring) -> bool
+    ensures { IsPainted task.now coloring given.now.terminals.output result }
 {
     match coloring {
-        Coloring::Always => true,
+        Coloring::Always => is_in_words(task),
         Coloring::Never => false,
-        Coloring::Auto => given.terminals.output && env::var(given.place.rt, "NO_COLOR").is_err(),
+        Coloring::Auto => {
+            (is_in_words(task) & given.terminals.output)
+                && env::var(given.place.rt, "NO_COLOR").is_err()
+        }
     }
 }
 

@@ -1,7 +1,8 @@
 //! What words ask for, by how an input looks.
 
 ghost use Rattle.std.specs.Prelude.{MatchOption, map, string_bytes};
-ghost use Rattle.app_command_line.specs.CommandLine.{AsksNothing, IsCommandLine};
+ghost use Rattle.app_command_line.specs.CommandLine.{IsCommandLine};
+ghost use Rattle.app_process.specs.Process.{AskForNone};
 ghost use Rattle.app_process.specs.Steps.Choices.{AreChoices, IsChoice};
 
 use app_command_line::{Sight, asked_in};
@@ -45,7 +46,7 @@ impl Choices {
     /// What they ask for on an input of some form.
     pub(crate) fn any(&self, words: &[String]) -> Option<Asked>
         requires { AreChoices (map string_bytes words.now) self.now }
-        ensures { MatchOption result (AsksNothing Sight.Unseen (map string_bytes words.now))
+        ensures { MatchOption result (AskForNone (map string_bytes words.now))
             (λ asked. (sight : Sight) × IsCommandLine sight asked (map string_bytes words.now)) }
     {
         match (self.unseen, self.other, self.memory) {

@@ -55,7 +55,8 @@ impl RunCounts {
         let keys = distinct(self.keys.as_slice());
         let repeated = repeated(self.pairs.as_slice());
         format!(in alloc;
-            "clients {}, calls {}, writes {}, reads answered {}, lost {}, failed {}, reads that ask nothing {}, keys {}, values that repeat {}",
+            "clients {}, calls {}, writes {}, reads answered {}, lost {}, failed {}, reads that ask nothing {}, keys {}, \
+             values that repeat {}",
             self.clients,
             self.calls,
             self.writes,

@@ -1,11 +1,11 @@
 //! Inputs that are files.
 
-ghost use Rattle.std.specs.Prelude.{◌≡◌, map, string_bytes, true};
+ghost use Rattle.std.specs.Prelude.{◌≡◌, MatchOption, map, string_bytes, true};
 ghost use Rattle.std.specs.Io.KnownBytes.{prepend_known};
 ghost use Rattle.std.specs.Option.{option_copied};
-ghost use Rattle.app_command_line.specs.CommandLine.{AsksNothing};
+ghost use Rattle.app_command_line.specs.CommandLine.{AsksNothing, IsCommandLine};
 ghost use Rattle.app_process.specs.Process.{EndAll, EndsFile, EndsFiles, EndsInputOf, EndsMisuse, IsOfOne, NameSeveral, SaysSeveral};
-ghost use Rattle.app_process.specs.Process.{label_of};
+ghost use Rattle.app_process.specs.Process.{AskForLook, is_seen, judges_lines, label_of, reads_lines};
 ghost use Rattle.app_process.specs.Statuses.{rank, worse};
 ghost use Rattle.app_process.specs.Steps.Choices.{AreChoices};
 
@@ -36,7 +36,7 @@ const UNREAD_STATUS: u8 = 3;
 ///
 /// Where there are several, each line has the name of its file before it. The form of each is found by its first text, but where each
 /// line holds a history. A file that can't be opened is named on standard error.
-#[tactic(auto, using(crate::proofs::FileLaws::each_ends, crate::proofs::FileLaws::misuse_ends, crate::proofs::FileLaws::several_ends))]
+#[tactic(auto, using(crate::proofs::FileLaws::each_ends, crate::proofs::FileLaws::misuse_ends, crate::proofs::FileLaws::several_ends, crate::proofs::FileLaws::none_unseen))]
 pub(crate) fn status_on_files<
     P: Env + Files + Threads + Wait + Sync + AllocGlobal + Input + Eprint + Clock,
     W: Write + Drop + Send,
@@ -239,12 +239,29 @@ fn status_on_reader<
     ensures { EndsInputOf (map string_bytes given.now.words.now) given.now.terminals (option_copied given.now.place.label)
         (R.remaining reader) (W.contents writer) (W.contents result.0) (E.said errors) (E.said result.1) result.2 }
 {
-    if let Some(asked) = choices.on(given.words, Sight::Unseen)
-        && reads_lines(&asked)
-    {
-        return status_of_asked(given, reader, writer, errors, &asked);
+    match asked_of_lines(choices, given.words) {
+        Some(asked) => status_of_asked(given, reader, writer, errors, &asked),
+        None => status_by_look(given, choices, name, reader, writer, errors),
     }
-    status_by_look(given, choices, name, reader, writer, errors)
+}
+
+// What the words alone ask for, where that is to judge the lines of an input.
+#[tactic(auto, using(crate::proofs::FileLaws::ask_for_other, crate::proofs::FileLaws::ask_for_nothing))]
+fn asked_of_lines(choices: &Choices, words: &[String]) -> Option<Asked>
+    requires { AreChoices (map string_bytes words.now) choices.now }
+    ensures { MatchOption result (AskForLook (map string_bytes words.now))
+        (λ asked. IsCommandLine Sight.Unseen asked (map string_bytes words.now) × (reads_lines asked.task ≡ true)) }
+{
+    match choices.on(words, Sight::Unseen) {
+        Some(asked) => {
+            if reads_lines(&asked) {
+                Some(asked)
+            } else {
+                None
+            }
+        }
+        None => None,
+    }
 }
 
 // The same, by how the input looks.
@@ -263,6 +280,7 @@ fn status_by_look<
     errors: E,
 ) -> (W, E, u8)
     requires choices { AreChoices (map string_bytes given.now.words.now) choices.now }
+    requires looks { AskForLook (map string_bytes given.now.words.now) }
     requires terminal { given.now.place.is_terminal ≡ given.now.terminals.error }
     ensures { EndsInputOf (map string_bytes given.now.words.now) given.now.terminals (option_copied given.now.place.label)
         (R.remaining reader) (W.contents writer) (W.contents result.0) (E.said errors) (E.said result.1) result.2 }
@@ -279,10 +297,28 @@ fn status_by_look<
 }
 
 // Whether each line of the input holds a history.
-fn reads_lines(asked: &Asked) -> bool {
+fn reads_lines(asked: &Asked) -> bool
+    ensures { result ≡ reads_lines asked.now.task }
+{
     match asked.task {
-        Task::OfInput(Order::JudgeLines(_), _) => true,
-        _ => false,
+        Task::OfInput(order, _) => judges_lines(&order),
+        Task::OfLog(_) | Task::OfPage(_, _) => false,
+    }
+}
+
+fn judges_lines(order: &Order) -> bool
+    ensures { result ≡ judges_lines order.now }
+{
+    match order {
+        Order::JudgeLines(_) => true,
+        Order::Judge(_)
+        | Order::Check(_)
+        | Order::Explain(_)
+        | Order::ExplainLong(_)
+        | Order::ListFaults(_)
+        | Order::Refute(_)
+        | Order::Replay
+        | Order::Drive(_) => false,
     }
 }
 
@@ -301,6 +337,8 @@ fn status_after<
     errors: E,
 ) -> (W, E, u8)
     requires choices { AreChoices (map string_bytes given.now.words.now) choices.now }
+    requires looks { AskForLook (map string_bytes given.now.words.now) }
+    requires seen { is_seen first.sight ≡ true }
     requires terminal { given.now.place.is_terminal ≡ given.now.terminals.error }
     ensures { EndsInputOf (map string_bytes given.now.words.now) given.now.terminals (option_copied given.now.place.label)
         (prepend_known first.bytes.items (R.remaining reader))

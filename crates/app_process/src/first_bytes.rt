@@ -1,7 +1,8 @@
 //! The form of an input, as far as its first bytes show it.
 
-ghost use Rattle.std.specs.Prelude.{IfOk, OnOk};
+ghost use Rattle.std.specs.Prelude.{◌≡◌, IfOk, IfSome, OnOk, true};
 ghost use Rattle.std.specs.Io.KnownBytes.{Consumes};
+ghost use Rattle.app_process.specs.Process.{is_seen};
 ghost use Rattle.app_process.specs.Steps.Readings.{Reads};
 
 use app_command_line::Sight;
@@ -30,7 +31,8 @@ pub(crate) struct FirstBytes {
 /// Where there is none within some first bytes, the form is [`Sight::Other`]. It fails where a read call does, or for want of memory.
 #[tactic(auto, using(crate::proofs::ReadLaws::consumes_nothing, crate::proofs::ReadLaws::consumes_more))]
 pub(crate) fn look<R: Read>(alloc: Global, reader: &mut R) -> io::Result<FirstBytes>
-    ensures { IfOk result (λ first. Consumes (R.remaining reader.old) (R.remaining reader.new) first.bytes.items) }
+    ensures bytes { IfOk result (λ first. Consumes (R.remaining reader.old) (R.remaining reader.new) first.bytes.items) }
+    ensures sight { IfOk result (λ first. is_seen first.sight ≡ true) }
 {
     let mut bytes = Vec::new(alloc);
     'calls: for _ in 0..MOST_CALLS {
@@ -65,7 +67,9 @@ fn read_more<R: Read>(reader: &mut R, bytes: &mut Vec<u8>) -> io::Result<bool>
 }
 
 // What some first bytes show; none where they have no whole text yet.
-fn sight_of(bytes: &[u8]) -> Option<Sight> {
+fn sight_of(bytes: &[u8]) -> Option<Sight>
+    ensures { IfSome result (λ sight. is_seen sight ≡ true) }
+{
     for (place, byte) in bytes.iter().enumerate() {
         match byte {
             b'[' | b' ' | b'\t' | b'\r' | b'\n' => {}
@@ -76,26 +80,28 @@ fn sight_of(bytes: &[u8]) -> Option<Sight> {
     None
 }
 
-// The texts that tell a form, with the quote after each.
-const TEXTS: [(&[u8], Sight); 7] = [
-    (b"start\"", Sight::Log),
-    (b"begin\"", Sight::Log),
-    (b"end\"", Sight::Log),
-    (b"fail\"", Sight::Log),
-    (b"lost\"", Sight::Log),
-    (b"order\"", Sight::Log),
-    (b"memory\"", Sight::Memory),
+// The texts that tell a log, with the quote after each.
+const LOG_TEXTS: [&[u8]; 6] = [
+    b"start\"", b"begin\"", b"end\"", b"fail\"", b"lost\"", b"order\"",
 ];
+
+// The text that tells a memory history, with the quote after it.
+const MEMORY_TEXT: &[u8] = b"memory\"";
 
 // How many bytes the longest of them has.
 const LONGEST_TEXT: usize = 7;
 
 // What the first text shows, where these bytes begin with it; none where they may still become one of those that tell a form.
-fn sight_by(text: &[u8]) -> Option<Sight> {
-    for (known, sight) in TEXTS {
+fn sight_by(text: &[u8]) -> Option<Sight>
+    ensures { IfSome result (λ sight. is_seen sight ≡ true) }
+{
+    for known in LOG_TEXTS {
         if text.starts_with(known) {
-            return Some(sight);
+            return Some(Sight::Log);
         }
+    }
+    if text.starts_with(MEMORY_TEXT) {
+        return Some(Sight::Memory);
     }
     if text.len() < LONGEST_TEXT {
         None

@@ -9,8 +9,9 @@ returns-in-Some g c =
     let rest = g.R.Read.remaining c.args.reader in
     let known = c.chain-reader.ensures.bytes
     ∙ (ap (λ b. option_append (Some b) rest) c.as_slice.ensures.value ∙ chain_known c.args.first.bytes.items rest) in
-    looked_at _ c.args.given.now.terminals _ c.args.first.sight c.in-Some.asked _ _ _ _ _ _ _ _ c.requires.terminal known c.in-Some.ensures
-    c.status_of_asked.ensures
+    looked_at _ c.args.given.now.terminals _ c.args.first.sight c.in-Some.asked _ _ _ _ _ _ _ _ c.requires.looks c.requires.seen c.requires.terminal
+    known c.in-Some.ensures c.status_of_asked.ensures
 
 pub returns : goal.returns
-returns g c = misused _ c.args.given.now.terminals _ c.args.first.sight _ _ _ _ _ _ c.status_of_usage-status.ensures
+returns g c =
+    misused _ c.args.given.now.terminals _ c.args.first.sight _ _ _ _ _ _ c.requires.looks c.requires.seen c.status_of_usage-status.ensures
