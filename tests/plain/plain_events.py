@@ -224,15 +224,29 @@ def calls_of(events):
     return calls
 
 
-class Run:
-    """The calls of a log, and the history that it stands for. Each operation is a form with the call that it comes from."""
+def seen_value(seen):
+    """The value that a read returned that saw the delete which began at a place, or the start of a key that had none."""
+    return 0 if seen is None else 2 * seen + 2
 
-    def __init__(self, events):
+
+def written_by(call):
+    """The value that a write or a delete writes."""
+    return 2 * call.value + 1 if call.word == "w" else seen_value(call.place)
+
+
+class Run:
+    """The calls of a log, and the history that it stands for by a choice: it says by the place of a null read, a read that found nothing of
+    a key that some delete names, the place of the delete that it saw, or None for the start. Others are left out. Each operation is a form
+    with the call that it comes from."""
+
+    def __init__(self, events, choice=None):
+        self.choice = choice or {}
         self.calls = calls_of(events)
         self.start = [[2 * event[1], 2 * event[2] + 1] for event in events if event[0] == "start"]
         self.returned = {(call.key, call.got) for call in self.calls if call.ending == "got"}
         self.deleted = {call.key for call in self.calls if call.word == "d" and call.ending != "failed"}
-        self.left_out = [call for call in self.calls if call.ending == "nothing" and call.key in self.deleted]
+        self.null_reads = [call for call in self.calls if call.ending == "nothing" and call.key in self.deleted]
+        self.left_out = [call for call in self.null_reads if call.place not in self.choice]
         clients = 1 + max((call.client for call in self.calls), default=-1)
         self.origins = [[self.operation(call) for call in self.calls if call.client == client] for client in range(clients)]
         self.origins = [[found for found in session if found] for session in self.origins]
@@ -240,8 +254,9 @@ class Run:
         self.origins += [self.fork(call) for call in self.forks]
 
     def is_forked(self, call):
-        """Whether it is a lost write whose value was read."""
-        return (call.word, call.ending) == ("w", "lost") and (call.key, call.value) in self.returned
+        """Whether it is a lost write whose value was read, or a lost delete that a null read saw."""
+        is_read = (call.key, call.value) in self.returned if call.word == "w" else call.place in self.choice.values()
+        return call.word in ("w", "d") and call.ending == "lost" and is_read
 
     def operation(self, call):
         """What stands for the call in its client's session; none where it is left out."""
@@ -250,16 +265,14 @@ class Run:
             return ["w", mark, 1], call
         if call.ending in ("failed", "lost") or call in self.left_out:
             return None
-        if call.word == "w":
-            return ["w", variable, 2 * call.value + 1, *open_end], call
-        if call.word == "d":
-            return ["w", variable, 2 * call.place + 2, *open_end], call
-        held = {"open": UNKNOWN, "nothing": 0}.get(call.ending)
+        if call.word in ("w", "d"):
+            return ["w", variable, written_by(call), *open_end], call
+        held = {"open": UNKNOWN, "nothing": seen_value(self.choice.get(call.place))}.get(call.ending)
         return ["r", variable, 2 * call.got + 1 if held is None else held], call
 
     def fork(self, call):
-        """The session of a lost write that was read: it comes after all that its client had called before it, and before nothing."""
-        return [(["r", 2 * call.place + 1, 1], call), (["w", 2 * call.key, 2 * call.value + 1, UNKNOWN], call)]
+        """The session of a lost write or delete that was read: it comes after all that its client had called before it, and before nothing."""
+        return [(["r", 2 * call.place + 1, 1], call), (["w", 2 * call.key, written_by(call), UNKNOWN], call)]
 
     def form(self):
         """The history in the form of `judge`."""
@@ -277,9 +290,14 @@ def history_of(events):
     return Run(events).form()
 
 
+def read_history(form):
+    """The table of initial values and the sessions of a history, as they are read of its form."""
+    return reading.read_long(text_of(form).encode())
+
+
 def report_on(events):
     """The three lines of the history of some events; none where nothing is known of it."""
-    return plain_long_judge.report(*reading.read_long(text_of(history_of(events)).encode()))
+    return plain_long_judge.report(*read_history(history_of(events)))
 
 
 def is_harmless(text):
