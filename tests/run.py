@@ -131,6 +131,7 @@ PARTS = (
         lambda given: given.of("long_histories", "1", given.many(4_000, 20_000), given.many(400, 2_000), *given.longer()),
     ),
     Part("events", lambda given: given.of("events", "1", given.many(5_000, 50_000), *given.longer())),
+    Part("choices", lambda given: given.of("choices", "1", given.many(2_000, 20_000), given.many(60, 1_000), *given.longer())),
     Part("million_operations", lambda given: given.of("lines", "2", "1", "--operations", given.many(0, 1_000_000)), is_long=True),
     Part("streams", lambda given: given.of("streams", "--steps", given.many(20, 50))),
     Part("stream_calls", lambda given: given.of("stream_calls"), ("cc",)),

@@ -26,6 +26,8 @@ It knows nothing of the program, and follows docs/events.md, with the histories 
 
 import argparse
 import itertools
+import json
+import math
 import sys
 from typing import NamedTuple
 
@@ -55,26 +57,21 @@ def candidates(run):
     }
 
 
-def choices(events):
-    """All choices in which no null read is left out."""
-    found = candidates(plain_events.Run(events))
-    for seen in itertools.product(*found.values()):
-        yield dict(zip(found, seen))
+def choices_of(found):
+    """All choices of some candidates of null reads, in which none is left out."""
+    return (dict(zip(found, seen)) for seen in itertools.product(*found.values()))
 
 
-def how_many_choices(events):
-    """How many choices there are in which no null read is left out."""
-    many = 1
-    for seen in candidates(plain_events.Run(events)).values():
-        many *= len(seen)
-    return many
+def how_many(found):
+    """How many choices there are of these candidates."""
+    return math.prod(map(len, found.values()))
 
 
 def met_by_some(events, first=()):
-    """The criteria that the history by some choice meets, in which no null read is left out; of some of the choices that are tried first.
-    None where values are not distinct."""
+    """The criteria that the history by some choice meets, in which no null read is left out. Some of the choices are tried first. None where
+    values are not distinct."""
     met = set()
-    for choice in itertools.chain(first, choices(events)):
+    for choice in itertools.chain(first, choices_of(candidates(plain_events.Run(events)))):
         kinds = kinds_by(events, choice)
         if kinds is None:
             return None
@@ -111,12 +108,12 @@ class Forced:
         return found
 
     def goes_on(self):
-        """Takes out candidates by what is known, and says whether more is known then."""
+        """Takes out candidates by what is known, and says whether more is known then of what comes before what. It ends at the first null
+        read that is left with none."""
         past = [before(self.edges, i) for i in range(len(self.edges))]
-        grew = False
+        known = list(self.edges)
         for read in self.run.null_reads:
             left = [seen for seen in self.left[read.place] if not self.is_out(past, read, seen)]
-            grew |= left != self.left[read.place]
             self.left[read.place] = left
             if not left:
                 self.impossible = read.place
@@ -125,7 +122,7 @@ class Forced:
                 self.seen[read.place] = left[0]
                 if left[0] is not START:
                     self.edges[self.number[read.place]] |= 1 << self.number[left[0]]
-        return grew
+        return self.edges != known
 
     def is_out(self, past, read, seen):
         """Whether a null read can't have seen a candidate; `past` has of each call what comes before it."""
@@ -175,23 +172,21 @@ def seen_lines(found):
         yield f"line {found.lines[read.place]}: {saw}\n"
 
 
-def events_of(*calls):
-    """The events of calls, each as "client word key [value] [ending]" with numbers, one after the other. A value of a read is what it got, and
-    "-" is nothing; the endings are "lost", "failed" and "open". Before them "start key value" may stand."""
+def log_of(*calls):
+    """The bytes of a log of calls, each as "client word key [value] [ending]" with numbers, one after the other. A value of a read is what it
+    got, and "-" is nothing; the endings are "lost", "fail" and "open". Before them "start key value" may stand."""
     events = []
     for text in calls:
         client, word, key, *rest = text.split()
         if client == "start":
-            events.append(("start", int(word), int(key)))
+            events.append(["start", int(word), int(key)])
             continue
-        ending = rest.pop() if rest and rest[-1] in ("lost", "failed", "open") else None
-        value = rest[0] if rest and rest[0] != "-" else None
-        events.append(("begin", int(client), word, int(key), int(value) if word == "w" else None))
-        if word == "r" and not ending:
-            events.append(("end", int(client), "nothing" if value is None else "got", value and int(value)))
-        elif ending != "open":
-            events.append(("end", int(client), ending or "ok", None))
-    return events
+        ending = rest.pop() if rest and rest[-1] in ("lost", "fail", "open") else "end"
+        value = int(rest[0]) if rest and rest[0] != "-" else None
+        events.append(["begin", int(client), [word, int(key), *([value] if word == "w" else [])]])
+        if ending != "open":
+            events.append([ending, int(client), *([value if word == "r" else "ok"] if ending == "end" else [])])
+    return "".join(f"{json.dumps(event)}\n" for event in events).encode()
 
 
 class Example(NamedTuple):
@@ -219,9 +214,12 @@ EXAMPLES = {
     "what comes before a lost delete": Example(("0 w 1 7", "0 d 0 lost", "1 w 0 5", "1 r 0 -", "1 r 1 -"), {3: 1}, NO, NO),
     "what comes after a lost delete": Example(("0 d 0 lost", "0 w 1 7", "1 w 0 5", "1 r 0 -", "1 r 1 -"), {3: 0}, ALL, ALL),
     "a lost write that was read": Example(("0 w 0 5 lost", "0 w 1 6", "1 r 0 5", "1 r 1 6", "2 d 0", "1 r 0 -"), {5: 4}, ALL, ALL),
-    "a delete that failed": Example(("0 d 0", "0 d 0 failed", "0 w 0 5", "0 r 0 -"), {3: 0}, NO, NO),
+    "a delete that failed": Example(("0 d 0", "0 d 0 fail", "0 w 0 5", "0 r 0 -"), {3: 0}, NO, NO),
     "a delete that is pending": Example(("0 w 0 5", "1 d 0 open", "0 r 0 -"), {2: 1}, ALL, ALL),
     "one read after the other": Example(("0 w 1 7", "0 d 1", "0 d 0", "1 w 0 9", "1 r 0 -", "1 r 1 -"), {4: 2, 5: 1}, ALL, ALL),
+    "a delete after the read, through another null read": Example(
+        ("start 0 4", "0 r 1 -", "0 d 0", "1 r 0 -", "1 d 1"), {0: -1, 2: 1}, ALL, ALL
+    ),
     "in another order of lines": Example(("1 w 0 9", "1 r 0 -", "1 r 1 -", "0 w 1 7", "0 d 1", "0 d 0"), {1: 5, 2: 4}, ALL, ALL),
     "both of two deletes come after a write": Example(
         ("0 w 1 7", "1 r 1 7", "1 d 0", "2 r 1 7", "2 d 0", "3 w 0 5", "3 r 0 -", "3 r 1 -"), {6: None}, ALL, NO
@@ -232,7 +230,7 @@ EXAMPLES = {
 def faults_of_examples():
     """What is wrong with what this program says of each example."""
     for name, example in EXAMPLES.items():
-        events = events_of(*example.calls)
+        events = plain_events.read_log(log_of(*example.calls)).events
         forced = Forced(events)
         number = {START: -1, **forced.number}
         seen = {forced.number[read.place]: None for read in forced.run.null_reads}

@@ -1,0 +1,199 @@
+#!/usr/bin/env python3
+"""Compares what is said of logs with deletes with all that reads which found nothing can have seen, and with what is forced of them.
+
+    python3 tests/process/choices.py SEED LOGS RUNS [--long] -- PROGRAM
+
+- LOGS tiny logs (deleting_stores.py), each with a null read, a read that found nothing of a key that some delete names. What `judge` says of
+  each is compared with plain_choices.py. A `no` has to be one by every choice of what the null reads saw. Each line has to be that of the
+  history by the forced choice. What is a `no` where all null reads are left out has to stay one.
+- The examples of plain_choices.py, and these as its own.
+- RUNS runs of correct stores, of which none may be a `no`, and as many with each planted fault. Of the first 60 with a fault at least so many
+  have to be a `no` as the forced choice finds: the table FOUND. With `--long` each run is compared with the history by the forced choice.
+
+It prints for each criterion how many logs are a `no` by every choice, with all null reads left out, by the forced choice and by the program.
+"""
+
+import argparse
+import itertools
+import pathlib
+import random
+import subprocess
+import tempfile
+from collections import Counter
+
+import folders  # noqa: F401
+import deleting_stores
+import plain_choices
+import plain_events
+from command_words import CRITERIA, with_program
+from counting import end
+
+JUDGE = ["judge", "--long", "--events"]
+SECONDS, TOGETHER = 120, 100
+MOST_CHOICES, FIRST_CHOICES = 2_000, 50
+TABLE_RUNS, ENOUGH = 60, 1_000
+FOUND = {"lost write": 26, "evicted key": 27, "resurrected value": 21, "any replica": 19}
+WAYS = ("every choice", "left out", "forced", "program")
+SEEN = ("the start", "a delete", "more than one candidate", "no candidate", "a lost delete", "a pending delete")
+
+
+def lines_of_some(program, folder, logs):
+    """Of each log what the program says of each criterion, in the order of the logs."""
+    names = [str(folder / f"{number}.jsonl") for number in range(len(logs))]
+    for name, log in zip(names, logs):
+        pathlib.Path(name).write_bytes(log)
+    done = subprocess.run([*program, *JUDGE, *names], capture_output=True, check=False, timeout=SECONDS)
+    said = {}
+    for line in done.stdout.decode(errors="replace").splitlines():
+        name, _, text = line.rpartition(": ")
+        criterion, _, answer = text.partition(" ")
+        said.setdefault(name, {})[criterion] = answer
+    return [said.get(name, {}) for name in names]
+
+
+def lines_of(program, logs):
+    """The same, for some logs a run. An empty one is beside them: one log alone would have no name before its lines."""
+    with tempfile.TemporaryDirectory(prefix="choices-") as folder:
+        for first in range(0, len(logs), TOGETHER):
+            yield from lines_of_some(program, pathlib.Path(folder), [*logs[first : first + TOGETHER], b""])[:-1]
+
+
+def kept(log):
+    """The name of a file with a log, which stays."""
+    with tempfile.NamedTemporaryFile(prefix="choices-", suffix=".jsonl", delete=False) as file:
+        file.write(log)
+    return file.name
+
+
+def refusing(kinds):
+    """The criteria against which some kinds are."""
+    return {criterion for criterion, kind in kinds.items() if kind}
+
+
+def ways_of(events, forced):
+    """The criteria of which the history of some events is a `no`: by every choice, with null reads left out, and by the forced choice."""
+    likely = itertools.islice(plain_choices.choices_of(forced.left), FIRST_CHOICES)
+    met = plain_choices.met_by_some(events, likely)
+    left_out, by_forced = plain_choices.kinds_by(events, {}), plain_choices.kinds_by(events, forced.choice())
+    return set(CRITERIA) - met, refusing(left_out), refusing(by_forced)
+
+
+def said_faults(said, ways):
+    """What is wrong with what the program says of each criterion of a log."""
+    by_all, left_out, forced = ways
+    for criterion in CRITERIA:
+        answer = said.get(criterion, "nothing")
+        is_no = answer.startswith("no ")
+        if not is_no and answer != "yes":
+            yield f"{criterion} {answer}, where values are distinct"
+        if is_no and criterion not in by_all:
+            yield f"{criterion} {answer}, and some choice meets it"
+        if is_no != (criterion in forced):
+            yield f"{criterion} {answer}, and by the forced choice {'no' if criterion in forced else 'yes'}"
+        if not is_no and criterion in left_out:
+            yield f"{criterion} {answer}, and no where all null reads are left out"
+
+
+def seen_of(forced):
+    """What null reads saw by the forced choice."""
+    lost, pending = ({call.place for call in forced.run.calls if call.ending == ending} for ending in ("lost", "open"))
+    for place, left in forced.left.items():
+        if len(left) != 1:
+            yield "more than one candidate" if left else "no candidate"
+            continue
+        yield "the start" if left[0] is plain_choices.START else "a delete"
+        yield from ["a lost delete"] * (left[0] in lost) + ["a pending delete"] * (left[0] in pending)
+
+
+def log_faults(log, said, counts):
+    """What is wrong with what the program says of a log. How often each thing came is counted."""
+    events = plain_events.read_log(log).events
+    forced = plain_choices.Forced(events)
+    ways = ways_of(events, forced)
+    counts.update(seen_of(forced))
+    by_program = {criterion for criterion, answer in said.items() if answer.startswith("no ")}
+    counts.update((way, criterion) for way, some in zip(WAYS, (*ways, by_program)) for criterion in some)
+    return list(said_faults(said, ways))
+
+
+def tiny_log(seed, number):
+    """A tiny log in which some read found nothing of a key that some delete names, with few choices."""
+    rng = random.Random(f"{seed} {number}")
+    while True:
+        log = deleting_stores.tiny_log(rng).encode()
+        found = plain_choices.candidates(plain_events.Run(plain_events.read_log(log).events))
+        if found and plain_choices.how_many(found) <= MOST_CHOICES:
+            return log
+
+
+def tiny_faults(given, counts):
+    """The faults of each tiny log, and of the examples of plain_choices.py, in which each kind of a null read comes."""
+    logs = [tiny_log(given.seed, number) for number in range(given.logs)]
+    logs += [plain_choices.log_of(*example.calls) for example in plain_choices.EXAMPLES.values()]
+    for log, said in zip(logs, lines_of(given.program, logs)):
+        wrong = log_faults(log, said, counts)
+        yield [kept(log), *wrong] if wrong else []
+    for what in SEEN if given.logs >= ENOUGH else ():
+        yield [] if counts[what] else [f"never seen: {what}"]
+
+
+def run_faults(log, said, promised, is_long):
+    """What is wrong with what the program says of a run of a faulty store: with `--long` by the history of the forced choice."""
+    if set(said) != set(CRITERIA):
+        return [f"it says {said}"]
+    kinds = plain_choices.kinds(plain_events.read_log(log).events) if is_long else {}
+    due = {criterion: kind for criterion, kind in kinds.items() if (kind is not None) != said[criterion].startswith("no ")}
+    return [f"it says {said}, and by the forced choice {due}"] if due else []
+
+
+def correct_faults(given):
+    """The faults of each run of a correct store: what the store promises is met."""
+    runs = [deleting_stores.store_log(seed) for seed in range(given.runs)]
+    for (text, promised), said in zip(runs, lines_of(given.program, [text.encode() for text, _ in runs])):
+        wrong = [f"{criterion} {said.get(criterion)}, which the store promises" for criterion in promised if said.get(criterion) != "yes"]
+        yield [kept(text.encode()), *wrong] if wrong else []
+
+
+def planted_faults(given, fault):
+    """The faults of each run of a store with a planted fault, and of how many are found."""
+    runs, found = [deleting_stores.store_log(seed, fault) for seed in range(given.runs)], []
+    logs = [text.encode() for text, _ in runs]
+    for (_, promised), log, said in zip(runs, logs, lines_of(given.program, logs)):
+        found.append(any(said.get(criterion, "").startswith("no ") for criterion in promised))
+        wrong = run_faults(log, said, promised, given.long)
+        yield [kept(log), *wrong] if wrong else []
+    print(f"{fault}: {sum(found)} of {len(runs)} runs are a no", flush=True)
+    if len(runs) >= TABLE_RUNS:
+        many = sum(found[:TABLE_RUNS])
+        yield [] if many >= FOUND[fault] else [f"{fault}: {many} of the first {TABLE_RUNS} runs are a no, due {FOUND[fault]}"]
+
+
+def all_faults(given, counts):
+    yield from plain_choices.faults_of_examples()
+    yield from tiny_faults(given, counts)
+    yield from correct_faults(given)
+    for fault in deleting_stores.FAULTS:
+        yield from planted_faults(given, fault)
+
+
+def main():
+    parser = argparse.ArgumentParser(description=__doc__, formatter_class=argparse.RawDescriptionHelpFormatter)
+    parser.add_argument("seed", type=int)
+    parser.add_argument("logs", type=int)
+    parser.add_argument("runs", type=int)
+    parser.add_argument("--long", action="store_true")
+    given = with_program(parser)
+    passed, failed, counts = 0, 0, Counter()
+    for wrong in all_faults(given, counts):
+        passed, failed = passed + (not wrong), failed + bool(wrong)
+        if wrong:
+            print(*wrong, sep="\n  ", flush=True)
+    for way in WAYS:
+        print(f"{given.logs} tiny logs are a no by {way}: " + ", ".join(f"{criterion} {counts[way, criterion]}" for criterion in CRITERIA))
+    for what in SEEN:
+        print(f"{counts[what]:8} null reads see {what}")
+    end(passed, failed)
+
+
+if __name__ == "__main__":
+    main()
