@@ -19,7 +19,7 @@ The forced choice. A call comes before another, as far as is known,
 
 A candidate is out where the read comes before it, or where another write or delete of the key comes after it and before the read; the start
 is out where a write or a delete of the key comes before the read. This goes on until nothing more is found. A read with one candidate left saw
-that one, one with none the first delete of its key, and the history is a `no` then; one with more is left out.
+that one. One with none left saw the first delete of its key, as far as a choice has to say, and the history is a `no` then. Others are left out.
 
 It knows nothing of the program, and follows docs/events.md, with the histories of plain_events.py and the lines of plain_long_judge.py.
 """
@@ -82,14 +82,14 @@ def met_by_some(events, first=()):
 
 
 class Forced:
-    """What is forced of the null reads of a log: what is known to come before each call, and the candidates that are left of each null
-    read. Calls are named by their numbers, and a set of them is a number with a bit for each."""
+    """What is forced of the null reads of a log: what is known to come before each call, the candidates that are left of each null read, and
+    the choice. Calls are named by their numbers, and a set of them is a number with a bit for each."""
 
     def __init__(self, events):
         self.run = plain_events.Run(events)
         self.number = {call.place: i for i, call in enumerate(self.run.calls)}
-        self.left = candidates(self.run)
-        self.seen, self.impossible = {}, None
+        self.left, self.choice = candidates(self.run), {}
+        self.first_delete = {call.key: call.place for call in reversed(self.run.calls) if call.word == "d" and call.ending != "failed"}
         self.writers = {}
         for i, call in enumerate(self.run.calls):
             if call.word != "r":
@@ -108,21 +108,23 @@ class Forced:
         return found
 
     def goes_on(self):
-        """Takes out candidates by what is known, and says whether more is known then of what comes before what. It ends at the first null
-        read that is left with none."""
+        """Takes out candidates by what is known, and says whether more is known then of what comes before what."""
         past = [before(self.edges, i) for i in range(len(self.edges))]
         known = list(self.edges)
         for read in self.run.null_reads:
+            if read.place in self.choice:
+                continue
             left = [seen for seen in self.left[read.place] if not self.is_out(past, read, seen)]
             self.left[read.place] = left
-            if not left:
-                self.impossible = read.place
-                return False
-            if len(left) == 1:
-                self.seen[read.place] = left[0]
-                if left[0] is not START:
-                    self.edges[self.number[read.place]] |= 1 << self.number[left[0]]
+            if len(left) < 2:
+                self.choose(read, left[0] if left else self.first_delete[read.key])
         return self.edges != known
+
+    def choose(self, read, seen):
+        """The null read saw this."""
+        self.choice[read.place] = seen
+        if seen is not START:
+            self.edges[self.number[read.place]] |= 1 << self.number[seen]
 
     def is_out(self, past, read, seen):
         """Whether a null read can't have seen a candidate; `past` has of each call what comes before it."""
@@ -133,18 +135,10 @@ class Forced:
         delete = self.number[seen]
         return bool(past[delete] >> at & 1) or any(past[other] >> delete & 1 for other in members(writers & ~(1 << delete)))
 
-    def choice(self):
-        """What null reads saw that are left with one candidate, and of one that is left with none the first delete of its key."""
-        if self.impossible is None:
-            return self.seen
-        key = self.run.calls[self.number[self.impossible]].key
-        deletes = [call.place for call in self.run.calls if (call.word, call.key) == ("d", key) and call.ending != "failed"]
-        return {**self.seen, self.impossible: deletes[0]}
-
 
 def run_of(events):
     """The calls of some events, and the history by the forced choice."""
-    return plain_events.Run(events, Forced(events).choice())
+    return plain_events.Run(events, Forced(events).choice)
 
 
 def history_of(events):
@@ -154,7 +148,7 @@ def history_of(events):
 
 def kinds(events):
     """The kinds that the three lines name of the history by the forced choice; None where values are not distinct."""
-    return kinds_by(events, Forced(events).choice())
+    return kinds_by(events, Forced(events).choice)
 
 
 def report_on(events):
@@ -234,7 +228,7 @@ def faults_of_examples():
         forced = Forced(events)
         number = {START: -1, **forced.number}
         seen = {forced.number[read.place]: None for read in forced.run.null_reads}
-        seen |= {number[read]: number[delete] for read, delete in forced.choice().items()}
+        seen |= {number[read]: number[delete] for read, delete in forced.choice.items()}
         met = tuple(criterion for criterion, kind in kinds(events).items() if kind is None)
         by_any = tuple(criterion for criterion in CRITERIA if criterion in met_by_some(events))
         found = Example(example.calls, seen, met, by_any)

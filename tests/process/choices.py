@@ -74,7 +74,7 @@ def ways_of(events, forced):
     """The criteria of which the history of some events is a `no`: by every choice, with null reads left out, and by the forced choice."""
     likely = itertools.islice(plain_choices.choices_of(forced.left), FIRST_CHOICES)
     met = plain_choices.met_by_some(events, likely)
-    left_out, by_forced = plain_choices.kinds_by(events, {}), plain_choices.kinds_by(events, forced.choice())
+    left_out, by_forced = plain_choices.kinds_by(events, {}), plain_choices.kinds_by(events, forced.choice)
     return set(CRITERIA) - met, refusing(left_out), refusing(by_forced)
 
 
@@ -113,7 +113,9 @@ def log_faults(log, said, counts):
     counts.update(seen_of(forced))
     by_program = {criterion for criterion, answer in said.items() if answer.startswith("no ")}
     counts.update((way, criterion) for way, some in zip(WAYS, (*ways, by_program)) for criterion in some)
-    return list(said_faults(said, ways))
+    is_lacking = not all(forced.left.values())
+    wrong = ["a read is left with no candidate, and the forced choice meets a criterion"] * (is_lacking and ways[2] != set(CRITERIA))
+    return [*wrong, *said_faults(said, ways)]
 
 
 def tiny_log(seed, number):
