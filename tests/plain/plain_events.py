@@ -17,6 +17,7 @@ import sys
 import unicodedata
 from typing import NamedTuple
 
+import plain_forced
 import plain_long_judge
 import reading
 from objects import UNKNOWN
@@ -235,23 +236,33 @@ def written_by(call):
 
 
 class Run:
-    """The calls of a log, and the history that it stands for by a choice: it says by the place of a null read, a read that found nothing of
-    a key that some delete names, the place of the delete that it saw, or None for the start. Others are left out. Each operation is a form
+    """The calls of a log, and the history that it stands for by what is forced of reads that found nothing, or by a choice that is given: it
+    says by the place of a null read the place of the delete that it saw, or None for the start. Others are left out. Each operation is a form
     with the call that it comes from."""
 
     def __init__(self, events, choice=None):
-        self.choice = choice or {}
         self.calls = calls_of(events)
         self.start = [[2 * event[1], 2 * event[2] + 1] for event in events if event[0] == "start"]
         self.returned = {(call.key, call.got) for call in self.calls if call.ending == "got"}
-        self.deleted = {call.key for call in self.calls if call.word == "d" and call.ending != "failed"}
-        self.null_reads = [call for call in self.calls if call.ending == "nothing" and call.key in self.deleted]
-        self.left_out = [call for call in self.null_reads if call.place not in self.choice]
+        self.choice = self.forced().choice if choice is None else choice
+        self.left_out = [call for call in plain_forced.null_reads(self.calls) if call.place not in self.choice]
         clients = 1 + max((call.client for call in self.calls), default=-1)
         self.origins = [[self.operation(call) for call in self.calls if call.client == client] for client in range(clients)]
         self.origins = [[found for found in session if found] for session in self.origins]
         self.forks = [call for call in self.calls if self.is_forked(call)]
         self.origins += [self.fork(call) for call in self.forks]
+
+    def started(self):
+        """The keys that have a start."""
+        return {variable // 2 for variable, _ in self.start}
+
+    def candidates(self):
+        """What each null read may have seen."""
+        return plain_forced.candidates(self.calls, self.started())
+
+    def forced(self):
+        """What is forced of the null reads."""
+        return plain_forced.Forced(self.calls, self.started())
 
     def is_forked(self, call):
         """Whether it is a lost write whose value was read, or a lost delete that a null read saw."""

@@ -25,6 +25,7 @@ import folders  # noqa: F401
 import deleting_stores
 import plain_choices
 import plain_events
+import plain_forced
 from command_words import CRITERIA, with_program
 from counting import end
 
@@ -96,19 +97,19 @@ def said_faults(said, ways):
 
 def seen_of(forced):
     """What null reads saw by the forced choice."""
-    lost, pending = ({call.place for call in forced.run.calls if call.ending == ending} for ending in ("lost", "open"))
+    lost, pending = ({call.place for call in forced.calls if call.ending == ending} for ending in ("lost", "open"))
     for place, left in forced.left.items():
         if len(left) != 1:
             yield "more than one candidate" if left else "no candidate"
             continue
-        yield "the start" if left[0] is plain_choices.START else "a delete"
+        yield "the start" if left[0] is plain_forced.START else "a delete"
         yield from ["a lost delete"] * (left[0] in lost) + ["a pending delete"] * (left[0] in pending)
 
 
 def log_faults(log, said, counts):
     """What is wrong with what the program says of a log. How often each thing came is counted."""
     events = plain_events.read_log(log).events
-    forced = plain_choices.Forced(events)
+    forced = plain_events.Run(events, {}).forced()
     ways = ways_of(events, forced)
     counts.update(seen_of(forced))
     by_program = {criterion for criterion, answer in said.items() if answer.startswith("no ")}
@@ -123,7 +124,7 @@ def tiny_log(seed, number):
     rng = random.Random(f"{seed} {number}")
     while True:
         log = deleting_stores.tiny_log(rng).encode()
-        found = plain_choices.candidates(plain_events.Run(plain_events.read_log(log).events))
+        found = plain_events.Run(plain_events.read_log(log).events, {}).candidates()
         if found and plain_choices.how_many(found) <= MOST_CHOICES:
             return log
 
@@ -143,7 +144,7 @@ def run_faults(log, said, promised, is_long):
     """What is wrong with what the program says of a run of a faulty store: with `--long` by the history of the forced choice."""
     if set(said) != set(CRITERIA):
         return [f"it says {said}"]
-    kinds = plain_choices.kinds(plain_events.read_log(log).events) if is_long else {}
+    kinds = plain_choices.kinds_by(plain_events.read_log(log).events) if is_long else {}
     due = {criterion: kind for criterion, kind in kinds.items() if (kind is not None) != said[criterion].startswith("no ")}
     return [f"it says {said}, and by the forced choice {due}"] if due else []
 

@@ -1,0 +1,102 @@
+"""Says what the reads of a log that found nothing must have seen, in a plain and slow way.
+
+A null read is a read that found nothing of a key that some delete names which did not fail. Its candidates are the start, where the key has
+none, and each such delete: the order of the lines of a log says nothing of time. A choice says of null reads which candidate each saw.
+
+The forced choice. A call comes before another, as far as is known,
+
+- in a session, where the first one neither failed nor was lost;
+- where the other one got the value that the first one wrote;
+- where the other one is a null read with one candidate left, and the first one is that delete;
+- and through a third call.
+
+A candidate is out where the read comes before it, or where another write or delete of the key comes after it and before the read; the start
+is out where a write or a delete of the key comes before the read. This goes on until nothing more is found. A read with one candidate left saw
+that one. One with none left saw the first delete of its key, as far as a choice has to say, and no order explains that. Others are left out.
+
+It knows nothing of the program, and follows docs/events.md. Calls are those of plain_events.py.
+"""
+
+from plain_long_judge import before, members
+
+START = None
+
+
+def kept_deletes(calls):
+    """The deletes that did not fail."""
+    return [call for call in calls if call.word == "d" and call.ending != "failed"]
+
+
+def null_reads(calls):
+    """The reads that found nothing of a key that some delete names."""
+    deleted = {call.key for call in kept_deletes(calls)}
+    return [call for call in calls if call.ending == "nothing" and call.key in deleted]
+
+
+def candidates(calls, started):
+    """Of each null read, by the place of its begin, what it may have seen: the start, or a delete by the place of its begin."""
+    deletes = kept_deletes(calls)
+    return {
+        read.place: [START] * (read.key not in started) + [call.place for call in deletes if call.key == read.key] for read in null_reads(calls)
+    }
+
+
+class Forced:
+    """What is forced of the null reads of some calls: what is known to come before each call, the candidates that are left of each null read,
+    and the choice. Calls have the numbers of their places in the list, and a set of them is a number with a bit for each."""
+
+    def __init__(self, calls, started):
+        self.calls, self.reads = calls, null_reads(calls)
+        self.number = {call.place: i for i, call in enumerate(calls)}
+        self.left, self.choice = candidates(calls, started), {}
+        self.first_delete = {call.key: call.place for call in reversed(kept_deletes(calls))}
+        self.writers = {}
+        for i, call in enumerate(calls):
+            if call.word != "r":
+                self.writers[call.key] = self.writers.get(call.key, 0) | 1 << i
+        self.edges = []
+        if self.reads:
+            self.edges = self.first_edges()
+            while self.goes_on():
+                pass
+
+    def first_edges(self):
+        """Of each call what comes before it in its session, and the write whose value it got."""
+        edges, answered, writes = [], {}, {}
+        for i, call in enumerate(self.calls):
+            if call.word == "w" and call.ending != "failed":
+                writes[call.key, call.value] = writes.get((call.key, call.value), 0) | 1 << i
+        for i, call in enumerate(self.calls):
+            source = writes.get((call.key, call.got), 0) if call.ending == "got" else 0
+            edges.append(answered.get(call.client, 0) | source)
+            if call.ending not in ("failed", "lost"):
+                answered[call.client] = 1 << i
+        return edges
+
+    def goes_on(self):
+        """Takes out candidates by what is known, and says whether more is known then of what comes before what."""
+        past = [before(self.edges, i) for i in range(len(self.edges))]
+        known = list(self.edges)
+        for read in self.reads:
+            if read.place in self.choice:
+                continue
+            left = [seen for seen in self.left[read.place] if not self.is_out(past, read, seen)]
+            self.left[read.place] = left
+            if len(left) < 2:
+                self.choose(read, left[0] if left else self.first_delete[read.key])
+        return self.edges != known
+
+    def choose(self, read, seen):
+        """The null read saw this."""
+        self.choice[read.place] = seen
+        if seen is not START:
+            self.edges[self.number[read.place]] |= 1 << self.number[seen]
+
+    def is_out(self, past, read, seen):
+        """Whether a null read can't have seen a candidate; `past` has of each call what comes before it."""
+        at = self.number[read.place]
+        writers = past[at] & self.writers[read.key]
+        if seen is START:
+            return writers != 0
+        delete = self.number[seen]
+        return bool(past[delete] >> at & 1) or any(past[other] >> delete & 1 for other in members(writers & ~(1 << delete)))
