@@ -11,6 +11,7 @@ values are not distinct and the history is within the limits of `judge`.
 """
 
 import argparse
+import itertools
 import json
 import re
 import sys
@@ -25,6 +26,7 @@ from replay import NotWhole, Refused, read_json
 
 MOST_LINE = 1_000_000
 BLANKS = b" \t\r"
+MOST_MISSED = 3
 NOT_JSON, TOO_LONG, NOT_ALLOWED = 1, 9, 30
 NOT_WHOLE = "last line is not whole: passed over\n"
 LATE = "line {} reads a value whose write begins on line {}: this log is not in the order of time\n"
@@ -291,6 +293,17 @@ class Run:
         return ["memory", sessions, *([self.start] if self.start else [])]
 
 
+def run_shown(events, form):
+    """The run by the forced choice, or by a part of it whose history has this form, since not all that is forced has to be found."""
+    run = Run(events)
+    for many in range(1 + MOST_MISSED) if run.form() != form else ():
+        for missed in itertools.combinations(run.choice, many):
+            part = Run(events, {read: seen for read, seen in run.choice.items() if read not in missed})
+            if part.form() == form:
+                return part
+    return run
+
+
 def text_of(value):
     """A value as compact JSON, and a line feed."""
     return json.dumps(value, separators=(",", ":")) + "\n"
@@ -308,7 +321,12 @@ def read_history(form):
 
 def report_on(events):
     """The three lines of the history of some events; none where nothing is known of it."""
-    return plain_long_judge.report(*read_history(history_of(events)))
+    return report_of(history_of(events))
+
+
+def report_of(form):
+    """The three lines of a history; none where nothing is known of it."""
+    return plain_long_judge.report(*read_history(form))
 
 
 def is_harmless(text):

@@ -41,6 +41,18 @@ def candidates(calls, started):
     }
 
 
+class Past(dict):
+    """Of each call that is asked for what comes before it by some edges."""
+
+    def __init__(self, edges):
+        super().__init__()
+        self.edges = edges
+
+    def __missing__(self, i):
+        self[i] = before(self.edges, i)
+        return self[i]
+
+
 class Forced:
     """What is forced of the null reads of some calls: what is known to come before each call, the candidates that are left of each null read,
     and the choice. Calls have the numbers of their places in the list, and a set of them is a number with a bit for each."""
@@ -75,8 +87,8 @@ class Forced:
 
     def goes_on(self):
         """Takes out candidates by what is known, and says whether more is known then of what comes before what."""
-        past = [before(self.edges, i) for i in range(len(self.edges))]
         known = list(self.edges)
+        past = Past(known)
         for read in self.reads:
             if read.place in self.choice:
                 continue

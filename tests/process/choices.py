@@ -5,8 +5,9 @@
 
 - LOGS tiny logs (deleting_stores.py), each with a null read, a read that found nothing of a key that some delete names. What `judge` says of
   each is compared with plain_choices.py. A `no` has to be one by every choice of what the null reads saw. Each line has to be that of the
-  history by the forced choice. What is a `no` where all null reads are left out has to stay one.
-- The examples of plain_choices.py, and these as its own.
+  history by the forced choice. What is a `no` where all null reads are left out has to stay one. One in a thousand logs may lack a `no` of
+  the forced choice, if a write or a delete was lost: docs/limits.md says that not all is found there.
+- The examples of plain_choices.py, which that program is tried on too.
 - RUNS runs of correct stores, of which none may be a `no`, and as many with each planted fault. Of the first 60 with a fault at least so many
   have to be a `no` as the forced choice finds: the table FOUND. With `--long` each run is compared with the history by the forced choice.
 
@@ -34,6 +35,7 @@ SECONDS, TOGETHER = 120, 100
 MOST_CHOICES, FIRST_CHOICES = 2_000, 50
 TABLE_RUNS, ENOUGH = 60, 1_000
 FOUND = {"lost write": 26, "evicted key": 27, "resurrected value": 21, "any replica": 19}
+MISSED, MISSED_OF = "lack a no of the forced choice where a call was lost", 1_000
 WAYS = ("every choice", "left out", "forced", "program")
 SEEN = ("the start", "a delete", "more than one candidate", "no candidate", "a lost delete", "a pending delete")
 
@@ -89,8 +91,8 @@ def said_faults(said, ways):
             yield f"{criterion} {answer}, where values are distinct"
         if is_no and criterion not in by_all:
             yield f"{criterion} {answer}, and some choice meets it"
-        if is_no != (criterion in forced):
-            yield f"{criterion} {answer}, and by the forced choice {'no' if criterion in forced else 'yes'}"
+        if is_no and criterion not in forced:
+            yield f"{criterion} {answer}, and the forced choice meets it"
         if not is_no and criterion in left_out:
             yield f"{criterion} {answer}, and no where all null reads are left out"
 
@@ -116,7 +118,11 @@ def log_faults(log, said, counts):
     counts.update((way, criterion) for way, some in zip(WAYS, (*ways, by_program)) for criterion in some)
     is_lacking = not all(forced.left.values())
     wrong = ["a read is left with no candidate, and the forced choice meets a criterion"] * (is_lacking and ways[2] != set(CRITERIA))
-    return [*wrong, *said_faults(said, ways)]
+    missed = [f"{criterion} {said.get(criterion)}, and the forced choice does not meet it" for criterion in sorted(ways[2] - by_program)]
+    if any(call.ending == "lost" and call.word != "r" for call in forced.calls):
+        counts[MISSED] += bool(missed)
+        missed = []
+    return [*wrong, *missed, *said_faults(said, ways)]
 
 
 def tiny_log(seed, number):
@@ -136,6 +142,7 @@ def tiny_faults(given, counts):
     for log, said in zip(logs, lines_of(given.program, logs)):
         wrong = log_faults(log, said, counts)
         yield [kept(log), *wrong] if wrong else []
+    yield [] if counts[MISSED] <= given.logs // MISSED_OF + 1 else [f"{counts[MISSED]} logs {MISSED}"]
     for what in SEEN if given.logs >= ENOUGH else ():
         yield [] if counts[what] else [f"never seen: {what}"]
 
@@ -193,6 +200,7 @@ def main():
             print(*wrong, sep="\n  ", flush=True)
     for way in WAYS:
         print(f"{given.logs} tiny logs are a no by {way}: " + ", ".join(f"{criterion} {counts[way, criterion]}" for criterion in CRITERIA))
+    print(f"{counts[MISSED]} tiny logs {MISSED}")
     for what in SEEN:
         print(f"{counts[what]:8} null reads see {what}")
     end(passed, failed)

@@ -8,8 +8,8 @@
   refusal and the number of the line; and so does, in turn, one of these: `events --names` and `--notes`; `judge .. --every N`, cut by cut; `explain ..
   --json`, whose patterns are in the history by patterns.py; and `explain` in words, as a picture by pictures.py, and by `--all N`, whose
   lines are those of `judge`, and which no name in the log disturbs.
-- Each refusal, each kind of a `no`, forks, reads that ask nothing, torn ends, starts, and a cut that is a `no` where the whole is a `yes`
-  have to come in these logs.
+- Each refusal, each kind of a `no`, forks, reads that saw a delete, reads that ask nothing, torn ends, starts, and a cut that is a `no` where
+  the whole is a `yes` have to come in these logs.
 - The logs of examples/, names that are alike, lines of 1,000,000 bytes and of more, a log of more than 67,108,864 bytes, and words that are
   no command line.
 - A log that is written while it is judged: each answer comes before more is written, and with `--expect` the judge ends before the log does.
@@ -31,13 +31,13 @@ import tempfile
 import time
 from collections import Counter
 from concurrent.futures import ThreadPoolExecutor
+from typing import NamedTuple
 
 import folders  # noqa: F401
 import mangled
 import pictures
 import plain_events
 import random_logs
-import reading
 from command_words import CRITERIA, with_program
 from counting import end
 from patterns import AGAINST, MemoryHistory, is_pattern, shows
@@ -59,6 +59,13 @@ QUOTED = re.compile(r'"(?:\\.|[^"\\])*"')
 OF_CALL = re.compile(r"  line (\d+)(?: \(call\))?: ")
 NOTE = re.compile(r"(?: \[note|;) of line (\d+): ")
 CUT = "\u2026"
+
+
+class Due(NamedTuple):
+    """What is due to a log that is not refused: the three lines, and the run with its history."""
+
+    lines: str
+    run: plain_events.Run | None
 
 
 def outcome(program, words, data):
@@ -93,11 +100,11 @@ def answer(program, words, data, found):
     return written, [f"{' '.join(words)}: {fault}" for fault in wrong]
 
 
-def lines_due(program, events):
+def lines_due(program, form):
     """The three lines of the history of some events. Where the plain judge knows none, those that the program gives that history."""
-    found = plain_events.report_on(events)
+    found = plain_events.report_of(form)
     if found is None:
-        found = outcome(program, ["judge", "--long"], plain_events.text_of(plain_events.history_of(events)).encode())[1]
+        found = outcome(program, ["judge", "--long"], plain_events.text_of(form).encode())[1]
     return found
 
 
@@ -136,9 +143,16 @@ def judge_faults(program, data, found, lines, rng):
     return run_faults(program, [*JUDGE, *workers, *words], data, found, status_due(lines, expected), lines)
 
 
-def history_faults(program, data, found):
-    """What is wrong with the history that is written."""
-    return run_faults(program, ["events"], data, found, 0, plain_events.text_of(plain_events.history_of(found.events)))
+def due_of(program, data, found):
+    """What is due to a log by the history that is written of it, and what is wrong with that."""
+    written, wrong = answer(program, ["events"], data, found)
+    if found.refusal:
+        return Due("", None), wrong
+    run = plain_events.run_shown(found.events, json.loads(plain_of(written) or "[]"))
+    text = plain_events.text_of(run.form())
+    if written != text:
+        wrong.append(f"events: {written!r}, due {text!r}")
+    return Due(lines_due(program, run.form()), run), wrong
 
 
 def plain_of(text):
@@ -173,14 +187,14 @@ def cut_lines_due(program, found, every, expected):
     that is refused: after a cut that has so many events as were asked for, the log may go on."""
     written, many = "", 0
     for many in cuts_of(found, every):
-        lines = lines_due(program, found.events[:many])
+        lines = lines_due(program, plain_events.history_of(found.events[:many]))
         written += f"{many} {joined(lines)}\n"
         if status := status_due(lines, expected):
             return written, status, many, many % every > 0
     return written, int(found.refusal is not None), many, True
 
 
-def cuts_faults(program, data, found, lines, rng, seen):
+def cuts_faults(program, data, found, due, rng, seen):
     """What is wrong with the lines of the cuts, of a log on standard input or in a file, which is read on after the last cut."""
     every, (expected, words) = rng.choice((1, 2, 3, 5, 8, 1_000)), expectation(rng)
     words = [*JUDGE, *rng.sample((["--every", str(every)], words), 2)]
@@ -202,17 +216,17 @@ def cuts_faults(program, data, found, lines, rng, seen):
     return [f"{' '.join(words)}: {fault}" for fault in wrong]
 
 
-def explained_faults(program, data, found, lines, rng, seen):
+def explained_faults(program, data, found, due, rng, seen):
     """What is wrong with an explanation as JSON."""
     written, wrong = answer(program, [*EXPLAIN, "--json"], data, found)
     if found.refusal:
         return wrong
-    start, sessions = reading.read_long(plain_events.text_of(plain_events.history_of(found.events)).encode())
-    known, due = MemoryHistory(sessions, start), [line.split(" ") for line in lines.splitlines()]
+    start, sessions = plain_events.read_history(due.run.form())
+    known, lines = MemoryHistory(sessions, start), [line.split(" ") for line in due.lines.splitlines()]
     reasons = json.loads(plain_of(written) or "[]")
-    if [reason[:2] for reason in reasons] != [line[:2] for line in due]:
-        return [*wrong, f"explain --json: {written!r}, due {lines!r}"]
-    for (criterion, word, shown, *_), line in zip(reasons, due):
+    if [reason[:2] for reason in reasons] != [line[:2] for line in lines]:
+        return [*wrong, f"explain --json: {written!r}, due {due.lines!r}"]
+    for (criterion, word, shown, *_), line in zip(reasons, lines):
         if word == "no" and type(shown) is not str:
             seen[f"pattern of {shown[0]}"] += 1
             if not (is_pattern(shown) and shows(known, criterion, shown) and shown[0] == line[2]):
@@ -254,10 +268,10 @@ def note_faults(data, found, text, seen):
             yield f"{words!r}: its notes are {due[int(call[1])]}"
 
 
-def remark_faults(found, text):
+def remark_faults(found, run, text):
     """What is wrong with what the words say of reads that ask nothing, and with the numbers of the lines of calls."""
     text = "\n".join(apart(words)[0] for words in text.splitlines())
-    many = len(plain_events.Run(found.events).left_out)
+    many = len(run.left_out)
     told = {int(number) for number in ASK_NOTHING.findall(text)}
     begins = {line for event, line in zip(found.events, found.lines) if event[0] == "begin"}
     named = {int(number) for number in LINE.findall(QUOTED.sub("", text))}
@@ -265,15 +279,15 @@ def remark_faults(found, text):
     return wrong + ([f"no call begins on the lines {named - begins}: {text!r}"] if named - begins else [])
 
 
-def words_faults(program, data, found, lines, rng, seen):
+def words_faults(program, data, found, due, rng, seen):
     """What is wrong with an explanation in words, as a picture, or with a list of reads."""
     form = rng.choice(([], ["--svg"], ["--all", str(LISTED)], ["--all", str(LISTED), "--json"]))
     written, wrong = answer(program, [*EXPLAIN, *form], data, found)
-    if not found.refusal and not (is_harmless(written) and is_worded(form, lines, written)):
-        wrong.append(f"explain {' '.join(form)}: {written!r}, due {lines!r}")
+    if not found.refusal and not (is_harmless(written) and is_worded(form, due.lines, written)):
+        wrong.append(f"explain {' '.join(form)}: {written!r}, due {due.lines!r}")
     if found.refusal or form not in ([], ["--all", str(LISTED)]):
         return wrong
-    return [*wrong, *remark_faults(found, written), *note_faults(data, found, written, seen)]
+    return [*wrong, *remark_faults(found, due.run, written), *note_faults(data, found, written, seen)]
 
 
 OTHERS = (names_faults, cuts_faults, cuts_faults, explained_faults, words_faults)
@@ -286,14 +300,15 @@ def kept(data):
     return file.name
 
 
-def told_of(found, lines):
+def told_of(found, due):
     """What there is in a log."""
     if found.refusal:
         return [f"refused {found.refusal[0]}"]
-    run = plain_events.Run(found.events)
+    run = due.run
     there = {"a fork": run.forks, "a read that asks nothing": run.left_out, "a start": run.start, "a torn end": found.is_torn}
+    there |= {"a read that saw a delete": set(run.choice.values()) - {None}, "a lost delete that was seen": any(call.word == "d" for call in run.forks)}
     endings = {f"a call that ends as {call.ending}" for call in run.calls}
-    return [*lines.splitlines(), *(what for what, is_there in there.items() if is_there), *endings]
+    return [*due.lines.splitlines(), *(what for what, is_there in there.items() if is_there), *endings]
 
 
 def try_log(program, seed, number):
@@ -301,10 +316,10 @@ def try_log(program, seed, number):
     rng, seen = random.Random(f"{seed} {number}"), Counter()
     data = random_logs.log(rng)
     found = plain_events.read_log(data)
-    lines = "" if found.refusal else lines_due(program, found.events)
-    seen.update(told_of(found, lines))
-    wrong = judge_faults(program, data, found, lines, rng) + history_faults(program, data, found)
-    wrong += OTHERS[number % len(OTHERS)](program, data, found, lines, rng, seen)
+    due, wrong = due_of(program, data, found)
+    seen.update(told_of(found, due))
+    wrong += judge_faults(program, data, found, due.lines, rng)
+    wrong += OTHERS[number % len(OTHERS)](program, data, found, due, rng, seen)
     return [kept(data), *wrong] if wrong else [], seen
 
 
@@ -321,7 +336,7 @@ def never_seen(seen, logs):
     named = [f"{criterion} no {kind}" for kind, against in AGAINST.items() for criterion in against]
     named += [f"{criterion} yes" for criterion in CRITERIA] + ["refused 1", "refused 9", "refused 30"]
     named += [f"a call that ends as {ending}" for ending in ("open", "ok", "got", "nothing", "failed", "lost")]
-    named += ["a fork", "a read that asks nothing", "a start", "a torn end", "a run that ends before its log", "a note that is shown"]
+    named += ["a fork", "a read that saw a delete", "a lost delete that was seen", "a read that asks nothing", "a start", "a torn end", "a run that ends before its log", "a note that is shown"]
     named += ["a cut that is a no, and the whole a yes", "a late write", "a late write after the last cut"]
     for what in named if logs >= 1_000 else ():
         yield [] if seen[what] else [f"never seen: {what}"]
@@ -404,10 +419,10 @@ def single_faults(program):
     """The faults of what is said of single logs, and of words that are no command line."""
     for number, data in enumerate((*SINGLE, *(path.read_bytes() for path in sorted(EXAMPLES.glob("*.jsonl"))))):
         found, rng, seen = plain_events.read_log(data), random.Random(number), Counter()
-        lines = "" if found.refusal else lines_due(program, found.events)
-        wrong = judge_faults(program, data, found, lines, rng) + history_faults(program, data, found)
+        due, wrong = due_of(program, data, found)
+        wrong += judge_faults(program, data, found, due.lines, rng)
         for other in dict.fromkeys(OTHERS):
-            wrong += other(program, data, found, lines, rng, seen)
+            wrong += other(program, data, found, due, rng, seen)
         yield [kept(data), *wrong] if wrong else []
     for words in NO_COMMAND_LINE:
         status, written, errors = outcome(program, words, b"")

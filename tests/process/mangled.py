@@ -317,8 +317,9 @@ def is_right_of_log(order, data, found):
     if not plain_events.is_said(read, errors) or read.refusal:
         return plain_events.is_said(read, errors) and (status, written) == (1, "")
     if order["command"] == "events":
-        due = plain_events.names_of(read) if "--names" in order else plain_events.history_of(read.events)
-        return status == 0 and json.dumps(json.loads(written)) == json.dumps(due)
+        told = json.loads(written)
+        due = plain_events.names_of(read) if "--names" in order else plain_events.run_shown(read.events, told).form()
+        return status == 0 and json.dumps(told) == json.dumps(due)
     if order["command"] == "judge":
         return is_report_on(read.events, written) and status == status_of(order, ["; ".join(written.splitlines())])
     return status == 0 and is_reason(order, written)
