@@ -73,6 +73,38 @@ def refusing(kinds):
     return {criterion for criterion, kind in kinds.items() if kind}
 
 
+def said_no(said):
+    """The criteria of which the program says `no`."""
+    return {criterion for criterion, answer in said.items() if answer.startswith("no ")}
+
+
+def forced_faults(forced, by_forced, said, counts):
+    """What is wrong with what the program says of each criterion of a log, of which these are not met by the forced choice. What may be missed
+    is counted."""
+    for criterion in CRITERIA:
+        if said.get(criterion) != "yes" and criterion not in said_no(said):
+            yield f"{criterion} {said.get(criterion)}, where values are distinct"
+    for criterion in said_no(said) - by_forced:
+        yield f"{criterion} {said[criterion]}, and the forced choice meets it"
+    missed = by_forced - said_no(said)
+    if any(call.ending == "lost" and call.word != "r" for call in forced.calls):
+        counts[MISSED] += bool(missed)
+    else:
+        yield from (f"{criterion} {said.get(criterion)}, and the forced choice does not meet it" for criterion in missed)
+
+
+def all_faults_of(forced, ways, said, counts):
+    """The same of a tiny log, with what is wrong by every choice of it, and with all null reads left out."""
+    by_all, left_out, by_forced = ways
+    if not all(forced.left.values()) and by_forced != set(CRITERIA):
+        yield "a read is left with no candidate, and the forced choice meets a criterion"
+    yield from forced_faults(forced, by_forced, said, counts)
+    for criterion in said_no(said) - by_all:
+        yield f"{criterion} {said[criterion]}, and some choice meets it"
+    for criterion in left_out - said_no(said):
+        yield f"{criterion} {said.get(criterion)}, and no where all null reads are left out"
+
+
 def ways_of(events, forced):
     """The criteria of which the history of some events is a `no`: by every choice, with null reads left out, and by the forced choice."""
     likely = itertools.islice(plain_choices.choices_of(forced.left), FIRST_CHOICES)
@@ -81,26 +113,10 @@ def ways_of(events, forced):
     return set(CRITERIA) - met, refusing(left_out), refusing(by_forced)
 
 
-def said_faults(said, ways):
-    """What is wrong with what the program says of each criterion of a log."""
-    by_all, left_out, forced = ways
-    for criterion in CRITERIA:
-        answer = said.get(criterion, "nothing")
-        is_no = answer.startswith("no ")
-        if not is_no and answer != "yes":
-            yield f"{criterion} {answer}, where values are distinct"
-        if is_no and criterion not in by_all:
-            yield f"{criterion} {answer}, and some choice meets it"
-        if is_no and criterion not in forced:
-            yield f"{criterion} {answer}, and the forced choice meets it"
-        if not is_no and criterion in left_out:
-            yield f"{criterion} {answer}, and no where all null reads are left out"
-
-
 def seen_of(forced):
     """What null reads saw by the forced choice."""
     lost, pending = ({call.place for call in forced.calls if call.ending == ending} for ending in ("lost", "open"))
-    for place, left in forced.left.items():
+    for left in forced.left.values():
         if len(left) != 1:
             yield "more than one candidate" if left else "no candidate"
             continue
@@ -109,20 +125,18 @@ def seen_of(forced):
 
 
 def log_faults(log, said, counts):
-    """What is wrong with what the program says of a log. How often each thing came is counted."""
+    """What is wrong with what the program says of a tiny log. How often each thing came is counted."""
     events = plain_events.read_log(log).events
     forced = plain_events.Run(events, {}).forced()
     ways = ways_of(events, forced)
     counts.update(seen_of(forced))
-    by_program = {criterion for criterion, answer in said.items() if answer.startswith("no ")}
-    counts.update((way, criterion) for way, some in zip(WAYS, (*ways, by_program)) for criterion in some)
-    is_lacking = not all(forced.left.values())
-    wrong = ["a read is left with no candidate, and the forced choice meets a criterion"] * (is_lacking and ways[2] != set(CRITERIA))
-    missed = [f"{criterion} {said.get(criterion)}, and the forced choice does not meet it" for criterion in sorted(ways[2] - by_program)]
-    if any(call.ending == "lost" and call.word != "r" for call in forced.calls):
-        counts[MISSED] += bool(missed)
-        missed = []
-    return [*wrong, *missed, *said_faults(said, ways)]
+    counts.update((way, criterion) for way, some in zip(WAYS, (*ways, said_no(said))) for criterion in some)
+    return list(all_faults_of(forced, ways, said, counts))
+
+
+def missed_faults(counts, many):
+    """What is wrong with how many logs lack a `no`, of so many."""
+    return [] if counts[MISSED] <= 1 + many // MISSED_OF else [f"{counts[MISSED]} of {many} logs {MISSED}"]
 
 
 def tiny_log(seed, number):
@@ -142,18 +156,16 @@ def tiny_faults(given, counts):
     for log, said in zip(logs, lines_of(given.program, logs)):
         wrong = log_faults(log, said, counts)
         yield [kept(log), *wrong] if wrong else []
-    yield [] if counts[MISSED] <= given.logs // MISSED_OF + 1 else [f"{counts[MISSED]} logs {MISSED}"]
+    yield missed_faults(counts, given.logs)
     for what in SEEN if given.logs >= ENOUGH else ():
         yield [] if counts[what] else [f"never seen: {what}"]
 
 
-def run_faults(log, said, promised, is_long):
-    """What is wrong with what the program says of a run of a faulty store: with `--long` by the history of the forced choice."""
-    if set(said) != set(CRITERIA):
-        return [f"it says {said}"]
-    kinds = plain_choices.kinds_by(plain_events.read_log(log).events) if is_long else {}
-    due = {criterion: kind for criterion, kind in kinds.items() if (kind is not None) != said[criterion].startswith("no ")}
-    return [f"it says {said}, and by the forced choice {due}"] if due else []
+def run_faults(log, said, counts):
+    """What is wrong with what the program says of a run of a faulty store, by the forced choice."""
+    events = plain_events.read_log(log).events
+    forced = plain_events.Run(events, {}).forced()
+    return list(forced_faults(forced, refusing(plain_choices.kinds_by(events, forced.choice)), said, counts))
 
 
 def correct_faults(given):
@@ -166,16 +178,16 @@ def correct_faults(given):
 
 def planted_faults(given, fault):
     """The faults of each run of a store with a planted fault, and of how many are found."""
-    runs, found = [deleting_stores.store_log(seed, fault) for seed in range(given.runs)], []
+    runs, found, counts = [deleting_stores.store_log(seed, fault) for seed in range(given.runs)], [], Counter()
     logs = [text.encode() for text, _ in runs]
     for (_, promised), log, said in zip(runs, logs, lines_of(given.program, logs)):
-        found.append(any(said.get(criterion, "").startswith("no ") for criterion in promised))
-        wrong = run_faults(log, said, promised, given.long)
+        found.append(bool(said_no(said) & set(promised)))
+        wrong = run_faults(log, said, counts) if given.long else [] if set(said) == set(CRITERIA) else [f"it says {said}"]
         yield [kept(log), *wrong] if wrong else []
     print(f"{fault}: {sum(found)} of {len(runs)} runs are a no", flush=True)
-    if len(runs) >= TABLE_RUNS:
-        many = sum(found[:TABLE_RUNS])
-        yield [] if many >= FOUND[fault] else [f"{fault}: {many} of the first {TABLE_RUNS} runs are a no, due {FOUND[fault]}"]
+    yield missed_faults(counts, given.runs)
+    many = sum(found[:TABLE_RUNS])
+    yield [] if len(runs) < TABLE_RUNS or many >= FOUND[fault] else [f"{fault}: {many} of {TABLE_RUNS} runs are a no, due {FOUND[fault]}"]
 
 
 def all_faults(given, counts):
