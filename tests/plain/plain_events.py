@@ -294,10 +294,12 @@ class Run:
 
 
 def run_shown(events, form):
-    """The run by the forced choice, or by a part of it whose history has this form, since not all that is forced has to be found."""
+    """The run by the forced choice, or by a part of it whose history has this form: where a write or a delete was lost, not all that is forced
+    has to be found."""
     run = Run(events)
-    for many in range(1 + MOST_MISSED) if run.form() != form else ():
-        for missed in itertools.combinations(run.choice, many):
+    is_lossy = any(call.ending == "lost" and call.word != "r" for call in run.calls)
+    for many in range(MOST_MISSED) if is_lossy and run.form() != form else ():
+        for missed in itertools.combinations(run.choice, many + 1):
             part = Run(events, {read: seen for read, seen in run.choice.items() if read not in missed})
             if part.form() == form:
                 return part

@@ -53,6 +53,7 @@ SECONDS = 120
 JUDGE, EXPLAIN = ["judge", "--long", "--events"], ["explain", "--long", "--events"]
 LISTED = 20
 PIECE = 3
+MISSED, MISSED_OF = "a lost call beside which not all that is forced was found", 1_000
 ASK_NOTHING = re.compile(r"(\d+) reads? found nothing at .*: (?:it asks|they ask) nothing\.")
 LINE = re.compile(r"\bline (\d+)")
 QUOTED = re.compile(r'"(?:\\.|[^"\\])*"')
@@ -306,6 +307,7 @@ def told_of(found, due):
         return [f"refused {found.refusal[0]}"]
     run = due.run
     there = {"a fork": run.forks, "a read that asks nothing": run.left_out, "a start": run.start, "a torn end": found.is_torn}
+    there |= {MISSED: run.choice != run.forced().choice}
     there |= {"a read that saw a delete": set(run.choice.values()) - {None}, "a lost delete that was seen": any(call.word == "d" for call in run.forks)}
     endings = {f"a call that ends as {call.ending}" for call in run.calls}
     return [*due.lines.splitlines(), *(what for what, is_there in there.items() if is_there), *endings]
@@ -332,7 +334,8 @@ def random_faults(given, seen):
 
 
 def never_seen(seen, logs):
-    """What never came in the logs, and should have."""
+    """What never came in the logs, and should have, or came too often."""
+    yield [] if seen[MISSED] <= 1 + logs // MISSED_OF else [f"{seen[MISSED]} times: {MISSED}"]
     named = [f"{criterion} no {kind}" for kind, against in AGAINST.items() for criterion in against]
     named += [f"{criterion} yes" for criterion in CRITERIA] + ["refused 1", "refused 9", "refused 30"]
     named += [f"a call that ends as {ending}" for ending in ("open", "ok", "got", "nothing", "failed", "lost")]
