@@ -7,6 +7,8 @@
   each is compared with plain_choices.py. A `no` has to be one by every choice of what the null reads saw. Each line has to be that of the
   history by the forced choice. What is a `no` where all null reads are left out has to stay one. One in a thousand logs may lack a `no` of
   the forced choice, if a write or a delete was lost: docs/limits.md says that not all is found there.
+- The cuts of every tenth of these, by `judge --every 1`: each `no` of a cut is one of the whole log too, unless a later call takes it back, a
+  write of what a read in the cut got or a delete of a key at which one found nothing.
 - The examples of plain_choices.py, which that program is tried on too.
 - RUNS runs of correct stores, of which none may be a `no`, and as many with each planted fault. Of the first 60 with a fault at least so many
   have to be a `no` as the forced choice finds: the table FOUND. With `--long` each run is compared with the history by the forced choice.
@@ -33,7 +35,7 @@ from counting import end
 JUDGE = ["judge", "--long", "--events"]
 SECONDS, TOGETHER = 120, 100
 MOST_CHOICES, FIRST_CHOICES = 2_000, 50
-TABLE_RUNS, ENOUGH = 60, 1_000
+TABLE_RUNS, ENOUGH, CUT_OF = 60, 1_000, 10
 FOUND = {"lost write": 26, "evicted key": 27, "resurrected value": 21, "any replica": 19}
 MISSED, MISSED_OF = "lack a no of the forced choice where a call was lost", 1_000
 WAYS = ("every choice", "left out", "forced", "program")
@@ -134,6 +136,32 @@ def log_faults(log, said, counts):
     return list(all_faults_of(forced, ways, said, counts))
 
 
+def is_taken_back(events, many):
+    """Whether a call after the first events, so many, may take back a `no` of theirs."""
+    cut = plain_events.calls_of(events[:many])
+    missed = {call.key for call in cut if call.ending == "nothing"}
+    got = {(call.key, call.got) for call in cut if call.ending == "got"}
+    later = [call for call in plain_events.calls_of(events) if call.place >= many and call.ending != "failed" and call.word != "r"]
+    return any(call.key in missed if call.word == "d" else (call.key, call.value) in got for call in later)
+
+
+def cut_faults(program, log, counts):
+    """What is wrong with what the program says of the cuts of a log."""
+    done = subprocess.run([*program, *JUDGE, "--every", "1"], input=log, capture_output=True, check=False, timeout=SECONDS)
+    cuts = [line.partition(" ")[::2] for line in done.stdout.decode(errors="replace").splitlines()]
+    refused = [(int(many), {text.split(" ")[0] for text in lines.split("; ") if " no " in text}) for many, lines in cuts]
+    events = plain_events.read_log(log).events
+    if [many for many, _ in refused] != list(range(1, len(events) + 1)):
+        yield f"cuts at {[many for many, _ in refused]}"
+        return
+    for many, some in refused:
+        back = some - refused[-1][1]
+        counts["cuts"] += 1
+        counts["cuts with a no that a later call takes back"] += bool(back)
+        if back and not is_taken_back(events, many):
+            yield f"{many} events are a no for {back}, and the whole log is none"
+
+
 def missed_faults(counts, many):
     """What is wrong with how many logs lack a `no`, of so many."""
     return [] if counts[MISSED] <= 1 + many // MISSED_OF else [f"{counts[MISSED]} of {many} logs {MISSED}"]
@@ -155,6 +183,9 @@ def tiny_faults(given, counts):
     logs += [plain_choices.log_of(*example.calls) for example in plain_choices.EXAMPLES.values()]
     for log, said in zip(logs, lines_of(given.program, logs)):
         wrong = log_faults(log, said, counts)
+        yield [kept(log), *wrong] if wrong else []
+    for log in logs[::CUT_OF]:
+        wrong = list(cut_faults(given.program, log, counts))
         yield [kept(log), *wrong] if wrong else []
     yield missed_faults(counts, given.logs)
     for what in SEEN if given.logs >= ENOUGH else ():
@@ -213,6 +244,8 @@ def main():
     for way in WAYS:
         print(f"{given.logs} tiny logs are a no by {way}: " + ", ".join(f"{criterion} {counts[way, criterion]}" for criterion in CRITERIA))
     print(f"{counts[MISSED]} tiny logs {MISSED}")
+    for what in ("cuts", "cuts with a no that a later call takes back"):
+        print(f"{counts[what]:8} {what}")
     for what in SEEN:
         print(f"{counts[what]:8} null reads see {what}")
     end(passed, failed)
