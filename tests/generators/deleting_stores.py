@@ -1,7 +1,7 @@
 """Makes logs of events of runs in which keys are deleted: of anything at all, of correct stores, and of stores with a planted fault.
 
-The stores are those of recorded_stores.py, in simulated time, a seed a run, with requests and answers that get lost or come late. Each client
-has a replica. A fault shows at a replica by chance:
+The stores are those of recorded_stores.py, in simulated time, a seed a run, with requests and answers that get lost or come late. Each
+client has a replica. A fault shows at a replica by chance:
 
     lost write        a write of a key that the replica holds as deleted is answered and has no effect
     evicted key       a value that the replica holds is gone when it is read
@@ -24,8 +24,8 @@ RATES = {"lost write": 1.0, "evicted key": 0.05, "resurrected value": 0.2, "any 
 
 
 class Setting(NamedTuple):
-    """A run: the kind of its store, how many clients call how often, of how many keys, the share of deletes among writes, and the fault with the
-    chance that it shows where it can."""
+    """A run: the kind of its store, how many clients call how often, of how many keys, the share of deletes among writes, and the fault
+    with the chance that it shows where it can."""
 
     kind: Kind
     clients: int
@@ -109,7 +109,8 @@ def setting_of(seed, fault=""):
 
 
 def store_log(seed, fault=""):
-    """The log of the run of a seed, in which the fault showed, if there is one: the first such run of the seed. And what the store promises."""
+    """The log of the run of a seed, in which the fault showed, if there is one: the first such run of the seed. And what the store
+    promises."""
     setting = setting_of(seed, fault)
     for number in range(100):
         text, shown = run_of(setting, random.Random(f"{fault} {seed} {number}"))

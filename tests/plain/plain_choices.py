@@ -3,9 +3,9 @@
 
     python3 tests/plain/plain_choices.py [--all | --seen | --check] < LOG
 
-It writes three lines as `judge`: those of the history by the forced choice; with `--all` a `no` where no choice of what all null reads saw
-gives a history that meets the criterion, tried one by one; with `--seen` instead what each null read saw by the forced choice, by the lines of
-the begins: of its delete, `start`, or `open` where more than one candidate is left. `--check` tries the examples of this file.
+It writes three lines as `judge`: those of the history by the forced choice; with `--all` a `no` where no choice of what all null reads
+saw gives a history that meets the criterion, tried one by one; with `--seen` instead what each null read saw by the forced choice, by the
+lines of the begins: of its delete, `start`, or `open` where more than one candidate is left. `--check` tries the examples of this file.
 
 It knows nothing of the program. Choices are those of plain_forced.py, histories those of plain_events.py, and lines those of
 plain_long_judge.py.
@@ -28,8 +28,8 @@ MEMORY = "memory"
 
 
 def kinds_by(events, choice=None):
-    """The kind that each line names, or none of a yes, of the history of some events by a choice, or by the forced one where none is given. None
-    where values are not distinct."""
+    """The kind that each line names, or none of a yes, of the history of some events by a choice, or by the forced one where none is
+    given. None where values are not distinct."""
     _, sessions, *start = plain_events.Run(events, choice).form()
     calls = [[split(MEMORY, operation) for operation in session] for session in sessions]
     return plain_long_judge.kinds(start[0] if start else [], calls)
@@ -46,8 +46,8 @@ def how_many(found):
 
 
 def met_by_some(events, first=()):
-    """The criteria that the history by some choice meets, in which no null read is left out. Some of the choices are tried first. None where
-    values are not distinct."""
+    """The criteria that the history by some choice meets, in which no null read is left out. Some of the choices are tried first. None
+    where values are not distinct."""
     met = set()
     for choice in itertools.chain(first, choices_of(plain_events.Run(events, {}).candidates())):
         kinds = kinds_by(events, choice)
@@ -69,8 +69,8 @@ def seen_lines(found):
 
 
 def log_of(*calls):
-    """The bytes of a log of calls, each as "client word key [value] [ending]" with numbers, one after the other. A value of a read is what it
-    got, and "-" is nothing; the endings are "lost", "fail" and "open". Before them "start key value" may stand."""
+    """The bytes of a log of calls, each as "client word key [value] [ending]" with numbers, one after the other. A value of a read is
+    what it got, and "-" is nothing; the endings are "lost", "fail" and "open". Before them "start key value" may stand."""
     events = []
     for text in calls:
         client, word, key, *rest = text.split()
@@ -86,8 +86,8 @@ def log_of(*calls):
 
 
 class Example(NamedTuple):
-    """Calls; what each null read of them saw by the forced choice, by their numbers, -1 for the start and None for one that is left out; and
-    what is met by that choice, and by any."""
+    """Calls; what each null read of them saw by the forced choice, by their numbers, -1 for the start and None for one that is left out;
+    and what is met by that choice, and by any."""
 
     calls: tuple
     seen: dict

@@ -238,9 +238,9 @@ def written_by(call):
 
 
 class Run:
-    """The calls of a log, and the history that it stands for by what is forced of reads that found nothing, or by a choice that is given: it
-    says by the place of a null read the place of the delete that it saw, or None for the start. Others are left out. Each operation is a form
-    with the call that it comes from."""
+    """The calls of a log, and the history that it stands for by what is forced of reads that found nothing, or by a choice that is given:
+    it says by the place of a null read the place of the delete that it saw, or None for the start. Others are left out. Each operation is
+    a form with the call that it comes from."""
 
     def __init__(self, events, choice=None):
         self.calls = calls_of(events)
@@ -284,7 +284,8 @@ class Run:
         return ["r", variable, 2 * call.got + 1 if held is None else held], call
 
     def fork(self, call):
-        """The session of a lost write or delete that was read: it comes after all that its client had called before it, and before nothing."""
+        """The session of a lost write or delete that was read: it comes after all that its client had called before it, and before
+        nothing."""
         return [(["r", 2 * call.place + 1, 1], call), (["w", 2 * call.key, written_by(call), UNKNOWN], call)]
 
     def form(self):
@@ -294,8 +295,8 @@ class Run:
 
 
 def run_shown(events, form):
-    """The run by the forced choice, or by a part of it whose history has this form: where a write or a delete was lost, not all that is forced
-    has to be found."""
+    """The run by the forced choice, or by a part of it whose history has this form: where a write or a delete was lost, not all that is
+    forced has to be found."""
     run = Run(events)
     is_lossy = any(call.ending == "lost" and call.word != "r" for call in run.calls)
     for many in range(MOST_MISSED) if is_lossy and run.form() != form else ():

@@ -10,9 +10,10 @@ The forced choice. A call comes before another, as far as is known,
 - where the other one is a null read with one candidate left, and the first one is that delete;
 - and through a third call.
 
-A candidate is out where the read comes before it, or where another write or delete of the key comes after it and before the read; the start
-is out where a write or a delete of the key comes before the read. This goes on until nothing more is found. A read with one candidate left saw
-that one. One with none left saw the first delete of its key, as far as a choice has to say, and no order explains that. Others are left out.
+A candidate is out where the read comes before it, or where another write or delete of the key comes after it and before the read; the
+start is out where a write or a delete of the key comes before the read. This goes on until nothing more is found. A read with one
+candidate left saw that one. One with none left saw the first delete of its key, as far as a choice has to say, and no order explains
+that. Others are left out.
 
 It knows nothing of the program, and follows docs/events.md. Calls are those of plain_events.py.
 """
@@ -35,10 +36,11 @@ def null_reads(calls):
 
 def candidates(calls, started):
     """Of each null read, by the place of its begin, what it may have seen: the start, or a delete by the place of its begin."""
-    deletes = kept_deletes(calls)
-    return {
-        read.place: [START] * (read.key not in started) + [call.place for call in deletes if call.key == read.key] for read in null_reads(calls)
-    }
+    found = {}
+    for read in null_reads(calls):
+        deletes = [call.place for call in kept_deletes(calls) if call.key == read.key]
+        found[read.place] = deletes if read.key in started else [START, *deletes]
+    return found
 
 
 class Past(dict):
@@ -54,8 +56,8 @@ class Past(dict):
 
 
 class Forced:
-    """What is forced of the null reads of some calls: what is known to come before each call, the candidates that are left of each null read,
-    and the choice. Calls have the numbers of their places in the list, and a set of them is a number with a bit for each."""
+    """What is forced of the null reads of some calls: what is known to come before each call, the candidates that are left of each null
+    read, and the choice. Calls have the numbers of their places in the list, and a set of them is a number with a bit for each."""
 
     def __init__(self, calls, started):
         self.calls, self.reads = calls, null_reads(calls)

@@ -3,17 +3,19 @@
 
     python3 tests/process/choices.py SEED LOGS RUNS [--long] -- PROGRAM
 
-- LOGS tiny logs (deleting_stores.py), each with a null read, a read that found nothing of a key that some delete names. What `judge` says of
-  each is compared with plain_choices.py. A `no` has to be one by every choice of what the null reads saw. Each line has to be that of the
-  history by the forced choice. What is a `no` where all null reads are left out has to stay one. One in a thousand logs may lack a `no` of
-  the forced choice, if a write or a delete was lost: docs/limits.md says that not all is found there.
-- The cuts of every tenth of these, by `judge --every 1`: each `no` of a cut is one of the whole log too, unless a later call takes it back, a
-  write of what a read in the cut got or a delete of a key at which one found nothing.
+- LOGS tiny logs (deleting_stores.py), each with a null read, a read that found nothing of a key that some delete names. What `judge` says
+  of each is compared with plain_choices.py. A `no` has to be one by every choice of what the null reads saw. Each line has to be that of
+  the history by the forced choice. What is a `no` where all null reads are left out has to stay one. One in a thousand logs may lack a
+  `no` of the forced choice, if a write or a delete was lost: docs/limits.md says that not all is found there.
+- The cuts of every tenth of these, by `judge --every 1`: each `no` of a cut is one of the whole log too, unless a later call takes it
+  back, a write of what a read in the cut got or a delete of a key at which one found nothing.
 - The examples of plain_choices.py, which that program is tried on too.
-- RUNS runs of correct stores, of which none may be a `no`, and as many with each planted fault. Of the first 60 with a fault at least so many
-  have to be a `no` as the forced choice finds: the table FOUND. With `--long` each run is compared with the history by the forced choice.
+- RUNS runs of correct stores, of which none may be a `no`, and as many with each planted fault. Of the first 60 with a fault at least so
+  many have to be a `no` as the forced choice finds: the table FOUND. With `--long` each run is compared with the history by the forced
+  choice.
 
-It prints for each criterion how many logs are a `no` by every choice, with all null reads left out, by the forced choice and by the program.
+It prints for each criterion how many logs are a `no` by every choice, with all null reads left out, by the forced choice and by the
+program.
 """
 
 import argparse
@@ -81,8 +83,8 @@ def said_no(said):
 
 
 def forced_faults(forced, by_forced, said, counts):
-    """What is wrong with what the program says of each criterion of a log, of which these are not met by the forced choice. What may be missed
-    is counted."""
+    """What is wrong with what the program says of each criterion of a log, of which these are not met by the forced choice. What may be
+    missed is counted."""
     for criterion in CRITERIA:
         if said.get(criterion) != "yes" and criterion not in said_no(said):
             yield f"{criterion} {said.get(criterion)}, where values are distinct"

@@ -8,8 +8,8 @@
   refusal and the number of the line; and so does, in turn, one of these: `events --names` and `--notes`; `judge .. --every N`, cut by cut; `explain ..
   --json`, whose patterns are in the history by patterns.py; and `explain` in words, as a picture by pictures.py, and by `--all N`, whose
   lines are those of `judge`, and which no name in the log disturbs.
-- Each refusal, each kind of a `no`, forks, reads that saw a delete, reads that ask nothing, torn ends, starts, and a cut that is a `no` where
-  the whole is a `yes` have to come in these logs.
+- Each refusal, each kind of a `no`, forks, reads that saw a delete, reads that ask nothing, torn ends, starts, and a cut that is a `no`
+  where the whole is a `yes` have to come in these logs.
 - The logs of examples/, names that are alike, lines of 1,000,000 bytes and of more, a log of more than 67,108,864 bytes, and words that are
   no command line.
 - A log that is written while it is judged: each answer comes before more is written, and with `--expect` the judge ends before the log does.
@@ -307,8 +307,8 @@ def told_of(found, due):
         return [f"refused {found.refusal[0]}"]
     run = due.run
     there = {"a fork": run.forks, "a read that asks nothing": run.left_out, "a start": run.start, "a torn end": found.is_torn}
-    there |= {MISSED: run.choice != run.forced().choice}
-    there |= {"a read that saw a delete": set(run.choice.values()) - {None}, "a lost delete that was seen": any(call.word == "d" for call in run.forks)}
+    there |= {MISSED: run.choice != run.forced().choice, "a read that saw a delete": set(run.choice.values()) - {None}}
+    there |= {"a lost delete that was seen": any(call.word == "d" for call in run.forks)}
     endings = {f"a call that ends as {call.ending}" for call in run.calls}
     return [*due.lines.splitlines(), *(what for what, is_there in there.items() if is_there), *endings]
 
@@ -339,7 +339,8 @@ def never_seen(seen, logs):
     named = [f"{criterion} no {kind}" for kind, against in AGAINST.items() for criterion in against]
     named += [f"{criterion} yes" for criterion in CRITERIA] + ["refused 1", "refused 9", "refused 30"]
     named += [f"a call that ends as {ending}" for ending in ("open", "ok", "got", "nothing", "failed", "lost")]
-    named += ["a fork", "a read that saw a delete", "a lost delete that was seen", "a read that asks nothing", "a start", "a torn end", "a run that ends before its log", "a note that is shown"]
+    named += ["a fork", "a read that asks nothing", "a start", "a torn end", "a run that ends before its log", "a note that is shown"]
+    named += ["a read that saw a delete", "a lost delete that was seen"]
     named += ["a cut that is a no, and the whole a yes", "a late write", "a late write after the last cut"]
     for what in named if logs >= 1_000 else ():
         yield [] if seen[what] else [f"never seen: {what}"]
