@@ -6,7 +6,7 @@
 - LOGS tiny logs (deleting_stores.py), each with a null read, a read that found nothing of a key that some delete names. What `judge` says
   of each is compared with plain_choices.py. A `no` has to be one by every choice of what the null reads saw. Each line has to be that of
   the history by the forced choice. What is a `no` where all null reads are left out has to stay one. One in a thousand logs may lack a
-  `no` of the forced choice, if a write or a delete was lost: docs/limits.md says that not all is found there.
+  `no` of the forced choice, if a write or a delete was lost, since not all is found there, and one in a hundred of the runs below.
 - The cuts of every tenth of these, by `judge --every 1`: each `no` of a cut is one of the whole log too, unless a later call takes it
   back, a write of what a read in the cut got or a delete of a key at which one found nothing.
 - The examples of plain_choices.py, which that program is tried on too.
@@ -39,7 +39,7 @@ SECONDS, TOGETHER = 120, 100
 MOST_CHOICES, FIRST_CHOICES = 2_000, 50
 TABLE_RUNS, ENOUGH, CUT_OF = 60, 1_000, 10
 FOUND = {"lost write": 26, "evicted key": 27, "resurrected value": 21, "any replica": 19}
-MISSED, MISSED_OF = "lack a no of the forced choice where a call was lost", 1_000
+MISSED, MISSED_OF, MISSED_RUNS_OF = "lack a no of the forced choice where a call was lost", 1_000, 100
 WAYS = ("every choice", "left out", "forced", "program")
 SEEN = ("the start", "a delete", "more than one candidate", "no candidate", "a lost delete", "a pending delete")
 
@@ -164,9 +164,9 @@ def cut_faults(program, log, counts):
             yield f"{many} events are a no for {back}, and the whole log is none"
 
 
-def missed_faults(counts, many):
-    """What is wrong with how many logs lack a `no`, of so many."""
-    return [] if counts[MISSED] <= 1 + many // MISSED_OF else [f"{counts[MISSED]} of {many} logs {MISSED}"]
+def missed_faults(counts, many, share):
+    """What is wrong with how many logs lack a `no`, of so many: one may, and one more of each share."""
+    return [] if counts[MISSED] <= 1 + many // share else [f"{counts[MISSED]} of {many} logs {MISSED}"]
 
 
 def tiny_log(seed, number):
@@ -189,7 +189,7 @@ def tiny_faults(given, counts):
     for log in logs[::CUT_OF]:
         wrong = list(cut_faults(given.program, log, counts))
         yield [kept(log), *wrong] if wrong else []
-    yield missed_faults(counts, given.logs)
+    yield missed_faults(counts, given.logs, MISSED_OF)
     for what in SEEN if given.logs >= ENOUGH else ():
         yield [] if counts[what] else [f"never seen: {what}"]
 
@@ -218,7 +218,7 @@ def planted_faults(given, fault):
         wrong = run_faults(log, said, counts) if given.long else [] if set(said) == set(CRITERIA) else [f"it says {said}"]
         yield [kept(log), *wrong] if wrong else []
     print(f"{fault}: {sum(found)} of {len(runs)} runs are a no", flush=True)
-    yield missed_faults(counts, given.runs)
+    yield missed_faults(counts, given.runs, MISSED_RUNS_OF)
     many = sum(found[:TABLE_RUNS])
     yield [] if len(runs) < TABLE_RUNS or many >= FOUND[fault] else [f"{fault}: {many} of {TABLE_RUNS} runs are a no, due {FOUND[fault]}"]
 
