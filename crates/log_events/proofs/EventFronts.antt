@@ -3,9 +3,10 @@ use Rattle.std.proofs.Common.{◌≡◌, ℕ, zero, suc, ◌+◌, ◌<◌, ◌�
 use Rattle.std.specs.Prelude.{Some, slice_get}
 use Rattle.std.proofs.lemmas.Option.{same_Some, slice_get_within}
 use Rattle.log_events.specs.declared.event.ClientCall.{ClientCall}
+use Rattle.log_events.specs.declared.event.Ending.{Ending}
 use Rattle.log_events.specs.declared.event.Event.{Event}
 use Rattle.log_events.specs.declared.event.Event.TheVariants.{Starts, Begins, Ends}
-use Rattle.log_events.specs.Events.{IsOpen, MayStand, IsAllowed}
+use Rattle.log_events.specs.Events.{IsOpen, IsEnded, MayStand, IsAllowed}
 use Rattle.log_events.proofs.ListPlaces.{append-cases}
 use Rattle.log_events.specs.Pending.{MayFollow}
 
@@ -49,6 +50,18 @@ MayFollow-from es e may = MayStand-same (length es) es (es ++ e ∷ []) (slice_g
 pub MayStand-from : (es : List Event) (e : Event) → MayFollow es e → MayStand es (length es) e
 MayStand-from es e may =
     MayStand-same (length es) (es ++ e ∷ []) es (flipped (length es) es (es ++ e ∷ []) (slice_get-append es (e ∷ []))) (length es) e (omega arith) may
+
+pub IsOpen-push : (es : List Event) (e : Event) (c : ℕ) (call : ClientCall) (i j : ℕ) → j ≤ length es → IsOpen es c call i j
+    → IsOpen (es ++ e ∷ []) c call i j
+IsOpen-push es e = IsOpen-same (length es) es (es ++ e ∷ []) (slice_get-append es (e ∷ []))
+
+pub IsEnded-push : (es : List Event) (e : Event) (c : ℕ) (call : ClientCall) (i j : ℕ) (ending : Ending) → IsEnded es c call i j ending
+    → IsEnded (es ++ e ∷ []) c call i j ending
+IsEnded-push es e c call i j ending end =
+    let within = slice_get_within es j (Ends c ending) end.ends in record {
+      was_open = IsOpen-push es e c call i j (omega arith) end.was_open;
+      ends = sym (slice_get-append es (e ∷ []) j within) ∙ end.ends;
+    }
 
 pub IsAllowed-push : (es : List Event) (e : Event) → IsAllowed es → MayFollow es e → IsAllowed (es ++ e ∷ [])
 IsAllowed-push es e allowed may j f at = ⊎_elim

@@ -32,6 +32,7 @@ pub mod EmptyStructs
 pub mod EventFronts
 pub mod Following
 pub mod HistoryKept
+pub mod EndPlaces
 pub mod KeptLaws
 pub mod Loops
 pub mod Numbers

@@ -1,12 +1,13 @@
 //! The log of events.
 
-ghost use Rattle.std.specs.Prelude.{◌≡◌, ◌↔◌, ◌<◌, ◌≤◌, ◌∷◌, ◌++◌, ℕ, List, [], All, length, filter_map, vec_len, slice_index};
-ghost use Rattle.std.specs.Prelude.{IsTrue, IfOk, IfNone, IfSome, OnOk, OnErr, Err};
+ghost use Rattle.std.specs.Prelude.{◌≡◌, ◌↔◌, ◌<◌, ◌≤◌, ◌∷◌, ◌++◌, ℕ, List, [], All, length, filter_map, vec_len, slice_get, slice_index};
+ghost use Rattle.std.specs.Prelude.{IsTrue, IfOk, IfNone, IfSome, None, OnOk, OnErr, Err, Some};
 ghost use Rattle.judge_memory.specs.LongHistories.{IsLongHistory};
 ghost use Rattle.model_objects.specs.Table.{IsRising};
 ghost use Rattle.log_events.specs.declared.event.ClientCall.{ClientCall as Called};
+ghost use Rattle.log_events.specs.declared.event.Ending.{Ending as Ended};
 ghost use Rattle.log_events.specs.declared.event.Event.TheVariants.{Starts, Begins, Ends};
-ghost use Rattle.log_events.specs.Events.{Fits, IsAllowed, MayStand, run_calls};
+ghost use Rattle.log_events.specs.Events.{Call, Fits, IsAllowed, IsEnded, MayStand, run_calls};
 ghost use Rattle.log_events.specs.Histories.{clients, history_of, start_entry};
 ghost use Rattle.log_events.specs.Shapes.{called_key};
 ghost use Rattle.log_events.specs.Pending.{IsPending, MayFollow};
@@ -30,12 +31,14 @@ use std::marker::Model;
 
 /// The events of a memory's clients, as they come, each where it may come next.
 ///
-/// It keeps the calls with their endings, 32 bytes each, the starts, and 4 bytes a client.
+/// It keeps the calls with their endings and the places of these, 36 bytes each, the starts, and 4 bytes a client.
 #[derive(Drop)]
 pub struct EventLog {
     past: PastEvents,
     starts: Table<u64>,
     calls: Vec<LoggedCall>,
+    /// For each call one more than the place of its end, or 0 where it is pending; 0 past them.
+    ends: Vec<u32>,
     /// For each client one more than the number of its pending call, or 0; none past the end.
     pending: Vec<u32>,
     /// One more than the greatest number of a client that called.
@@ -47,13 +50,14 @@ pub struct EventLog {
 impl Model for EventLog {
     ghost use Rattle.std.specs.Prelude.{List};
     ghost use Rattle.log_events.specs.declared.event.Event.{Event};
-    ghost use Rattle.log_events.specs.Kept.{IsKept};
+    ghost use Rattle.log_events.specs.Kept.{AreEnds, IsKept};
 
     ghost Value = { List Event };
 
     ghost view = { λ log. log.past.events };
 
-    ghost invariant = { λ log. IsKept log.past.events log.starts log.calls.items log.pending.items log.clients log.events };
+    ghost invariant = { λ log. IsKept log.past.events log.starts log.calls.items log.pending.items log.clients log.events
+        × AreEnds log.past.events log.ends.items };
 }
 
 impl EventLog {
@@ -65,6 +69,7 @@ impl EventLog {
             past: PastEvents::new(),
             starts: Table::new(alloc),
             calls: Vec::new(alloc),
+            ends: Vec::new(alloc),
             pending: Vec::new(alloc),
             clients: 0,
             events: 0,
@@ -155,10 +160,12 @@ impl EventLog {
         if client > MAX_NAME || key_of(call) > MAX_NAME {
             return Err(AllocError);
         }
+        let number = self.calls.len() as u32;
         make_room(&mut self.pending, client)?;
+        make_room(&mut self.ends, number)?;
         self.calls
             .push(LoggedCall::begun(client, self.events, call))?;
-        self.pending[client as usize] = self.calls.len() as u32;
+        self.pending[client as usize] = number + 1;
         self.clients = self.clients.max(client + 1);
         self.events += 1;
         self.past = self.past.then(&Event::Begins(client, call));
@@ -173,6 +180,7 @@ impl EventLog {
     {
         let number = pending_number(&self.pending, client) as usize - 1;
         self.calls[number] = self.calls[number].ended(ending);
+        self.ends[number] = self.events + 1;
         self.pending[client as usize] = 0;
         self.events += 1;
         self.past = self.past.then(&Event::Ends(client, ending));
@@ -231,6 +239,19 @@ impl EventLog {
         ensures small { All IsSmallCall result.now }
     {
         self.calls.as_slice()
+    }
+
+    /// The place among the events at which a call ended, by its number among the calls; none where it is pending, or there is no such call.
+    /// O(1).
+    pub fn ended_at(&self, number: u32) -> Option<u32>
+        ensures none { IfNone result ((a : Call) → slice_get (run_calls self.now) number ≡ Some a → a.ending ≡ None) }
+        ensures some { IfSome result (λ j. (a : Call) → slice_get (run_calls self.now) number ≡ Some a
+            → (e : Ended) × IsEnded self.now a.client a.call a.place j e) }
+    {
+        match self.ends.get(number as usize) {
+            Some(link) if *link != 0 => Some(*link - 1),
+            _ => None,
+        }
     }
 
     /// The pending call of a client at the end of the log, if it has one. O(1).
@@ -313,15 +334,15 @@ fn copied(alloc: Global, starts: &Table<u64>) -> Result<Table<u64>, AllocError>
     Ok(copy)
 }
 
-/// Makes room for the pending call of a client.
-fn make_room(pending: &mut Vec<u32>, client: u32) -> Result<(), AllocError>
-    ensures kept { (c : ℕ) → slice_index pending.new.items c ≡ slice_index pending.old.items c }
-    ensures longer { vec_len pending.old ≤ vec_len pending.new }
-    ensures room { OnOk result (client < vec_len pending.new) }
+/// Makes room in a table of links for that of a number.
+fn make_room(links: &mut Vec<u32>, number: u32) -> Result<(), AllocError>
+    ensures kept { (k : ℕ) → slice_index links.new.items k ≡ slice_index links.old.items k }
+    ensures longer { vec_len links.old ≤ vec_len links.new }
+    ensures room { OnOk result (number < vec_len links.new) }
 {
-    let client = client as usize;
-    if client >= pending.len() {
-        pending.resize(client + 1, 0)?;
+    let number = number as usize;
+    if number >= links.len() {
+        links.resize(number + 1, 0)?;
     }
     Ok(())
 }

@@ -8,9 +8,9 @@ use Rattle.log_events.proofs.event_log.EventLog.calls.Goals as goal
 pub returns-clause-few : goal.returns-clause-few
 returns-clause-few c =
     let few = length-run_calls c.self.inside.past.events in
-    let same = ap length (c.as_slice.ensures.value ∙ c.self.invariant.calls_are) in
-    let bound = c.self.invariant.few in
+    let same = ap length (c.as_slice.ensures.value ∙ c.self.invariant.0.calls_are) in
+    let bound = c.self.invariant.0.few in
     omega arith
 
 pub returns-clause-small : goal.returns-clause-small
-returns-clause-small c = subst (λ (l : List Call). All IsSmallCall l) (sym c.as_slice.ensures.value) c.self.invariant.small_calls
+returns-clause-small c = subst (λ (l : List Call). All IsSmallCall l) (sym c.as_slice.ensures.value) c.self.invariant.0.small_calls

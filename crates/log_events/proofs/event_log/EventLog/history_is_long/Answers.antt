@@ -9,4 +9,4 @@ pub returns : goal.returns
 returns c =
     let es = c.self.inside.past.events in
     subst (λ (l : List Event). IsLongHistory (history_of l)) c.self.view_is
-    (long_history es c.self.inside.starts c.self.inside.calls.items c.self.inside.pending.items c.self.inside.clients c.self.inside.events c.self.invariant)
+    (long_history es c.self.inside.starts c.self.inside.calls.items c.self.inside.pending.items c.self.inside.clients c.self.inside.events c.self.invariant.0)

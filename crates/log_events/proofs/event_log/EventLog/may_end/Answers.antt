@@ -15,7 +15,7 @@ pub index-requires : goal.index-requires
 index-requires c =
     let read = c.pending_number-number.ensures ∙ ap (λ (l : List ℕ). slice_index l c.args.client) c.deref.ensures.value in
     let number = number-listed c.self.inside.calls.items c.self.inside.pending.items c.args.client c.pending_number-number.result
-    c.self.invariant.are_pending read c.if-number-ne0.true in
+    c.self.invariant.0.are_pending read c.if-number-ne0.true in
     let ok = c.self.inside.calls.ok in
     let within = number.within in
     omega arith
@@ -26,11 +26,11 @@ returns-then-number-ne0 c =
     let calls = c.self.inside.calls.items in
     let pending = c.self.inside.pending.items in
     let n = c.pending_number-number.result in
-    let are = subst (λ (l : List Call). ArePending l pending) c.self.invariant.calls_are c.self.invariant.are_pending in
+    let are = subst (λ (l : List Call). ArePending l pending) c.self.invariant.0.calls_are c.self.invariant.0.are_pending in
     let read = c.pending_number-number.ensures ∙ ap (λ (l : List ℕ). slice_index l c.args.client) c.deref.ensures.value in
-    let number = number-listed calls pending c.args.client n c.self.invariant.are_pending read c.if-number-ne0.true in
+    let number = number-listed calls pending c.args.client n c.self.invariant.0.are_pending read c.if-number-ne0.true in
     let at = slice_get_read calls (length calls) (n - 1) c.index.result.now (omega arith) number.within c.index.ensures in
-    let there : slice_get (run_calls es) (n - 1) ≡ Some c.index.result.now = ap (λ (l : List Call). slice_get l (n - 1)) (sym c.self.invariant.calls_are) ∙ at in
+    let there : slice_get (run_calls es) (n - 1) ≡ Some c.index.result.now = ap (λ (l : List Call). slice_get l (n - 1)) (sym c.self.invariant.0.calls_are) ∙ at in
     let fits = c.fits.ensures in
     let called = c.call.ensures in
     let iff : IsTrue c.fits.result ↔ MayFollow es (Ends c.args.client c.args.ending) = (
@@ -48,7 +48,7 @@ returns-else-number-ne0 c =
     let n = c.pending_number-number.result in
     let none : n ≡ 0 = omega arith in
     let is_zero = eq-eqb n 0 none in
-    let are = subst (λ (l : List Call). ArePending l pending) c.self.invariant.calls_are c.self.invariant.are_pending in
+    let are = subst (λ (l : List Call). ArePending l pending) c.self.invariant.0.calls_are c.self.invariant.0.are_pending in
     let read = c.pending_number-number.ensures ∙ ap (λ (l : List ℕ). slice_index l c.args.client) c.deref.ensures.value in
     let iff : IsTrue (not (eqb n 0)) ↔ MayFollow es (Ends c.args.client c.args.ending) = (
       λ t. let wrong = rw is_zero at t in absurd cc,

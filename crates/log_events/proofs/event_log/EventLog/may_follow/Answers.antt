@@ -13,10 +13,10 @@ returns-then-is_empty c =
     let es = c.self.inside.past.events in
     let empty = eqb-true _ _ (sym c.is_empty.ensures ∙ c.if-is_empty.true) in
     let ok = c.self.inside.calls.ok in
-    let same = ap length c.self.invariant.calls_are in
+    let same = ap length c.self.invariant.0.calls_are in
     let none : length (run_calls es) ≡ 0 = omega arith in
     let above = c.is_above.ensures in
-    let starts_are = c.self.invariant.starts_are in
+    let starts_are = c.self.invariant.0.starts_are in
     let iff : IsTrue c.is_above.result ↔ MayFollow es (Starts c.in-Starts.key c.in-Starts.field-1) = (
       λ t. start-follows es c.in-Starts.key c.in-Starts.field-1 none (subst (λ (s : _). IsAbove s c.in-Starts.key) starts_are (above.0 t)),
       λ may. above.1 (subst (λ (s : _). IsAbove s c.in-Starts.key) (sym starts_are) (start-above es c.in-Starts.key c.in-Starts.field-1 may)),
@@ -28,7 +28,7 @@ pub returns-else-is_empty : goal.returns-else-is_empty
 returns-else-is_empty c =
     let es = c.self.inside.past.events in
     let ok = c.self.inside.calls.ok in
-    let same = ap length c.self.invariant.calls_are in
+    let same = ap length c.self.invariant.0.calls_are in
     let iff : IsTrue c.is_empty.result ↔ MayFollow es (Starts c.in-Starts.key c.in-Starts.field-1) = (
       λ t. let wrong = sym t ∙ c.if-is_empty.false in absurd cc,
       λ may. absurd (start-after_call es c.in-Starts.key c.in-Starts.field-1
@@ -42,7 +42,7 @@ returns-in-Begins c =
     let es = c.self.inside.past.events in
     let pending = c.self.inside.pending.items in
     let n = c.pending_number.result in
-    let are = subst (λ (l : List Call). ArePending l pending) c.self.invariant.calls_are c.self.invariant.are_pending in
+    let are = subst (λ (l : List Call). ArePending l pending) c.self.invariant.0.calls_are c.self.invariant.0.are_pending in
     let read = c.pending_number.ensures ∙ ap (λ (l : List ℕ). slice_index l c.in-Begins.client) c.deref.ensures.value in
     let iff : IsTrue (eqb n 0) ↔ MayFollow es (Begins c.in-Begins.client c.in-Begins.field-1) = (
       λ t. begin-follows es pending are c.in-Begins.client c.in-Begins.field-1 (sym read ∙ eqb-true n 0 t),
