@@ -133,6 +133,7 @@ def log_faults(log, said, counts):
     events = plain_events.read_log(log).events
     forced = plain_events.Run(events, {}).forced()
     ways = ways_of(events, forced)
+    counts["logs"] += 1
     counts.update(seen_of(forced))
     counts.update((way, criterion) for way, some in zip(WAYS, (*ways, said_no(said))) for criterion in some)
     return list(all_faults_of(forced, ways, said, counts))
@@ -244,7 +245,7 @@ def main():
         if wrong:
             print(*wrong, sep="\n  ", flush=True)
     for way in WAYS:
-        print(f"{given.logs} tiny logs are a no by {way}: " + ", ".join(f"{criterion} {counts[way, criterion]}" for criterion in CRITERIA))
+        print(f"{counts['logs']} tiny logs are a no by {way}: " + ", ".join(f"{criterion} {counts[way, criterion]}" for criterion in CRITERIA))
     print(f"{counts[MISSED]} tiny logs {MISSED}")
     for what in ("cuts", "cuts with a no that a later call takes back"):
         print(f"{counts[what]:8} {what}")
