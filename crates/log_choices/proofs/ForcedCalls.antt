@@ -48,11 +48,3 @@ written-is (DeleteOf y) (Some Failed) x v is = absurd cc
 written-is (DeleteOf y) ending x v is = (writing-same (y, None) (x, v) is, λ failed. absurd cc)
 written-is (ReadOf y) (Some Failed) x v is = absurd cc
 written-is (ReadOf y) ending x v is = absurd cc
-
--- a delete that did not fail is one
-pub delete-written : (call : ClientCall) (ending : Option Ending) (x : ℕ) → call ≡ DeleteOf x → ending ≢ Some Failed
-    → written_by call ending ≡ Some (x, None)
-delete-written (WriteTo y u) ending x is stays = absurd cc
-delete-written (ReadOf y) ending x is stays = absurd cc
-delete-written (DeleteOf y) (Some Failed) x is stays = absurd (stays refl)
-delete-written (DeleteOf y) ending x is stays = let same : y ≡ x = cc in let f : ℕ → Option (ℕ × Option ℕ) = λ n. Some (n, None) in ap f same

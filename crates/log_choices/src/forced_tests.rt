@@ -91,8 +91,8 @@ fn more_clients(rt: HostRuntime) {
     assert_eq!(rt; last_of(alloc, calls), None);
 }
 
-/// The calls of two clients. Client 1's read of key 0 saw the delete of client 0, so what client 0 did before it, also to key 1, comes before
-/// client 1's read of key 1.
+/// The calls of two clients. The second's read of key 0 saw the delete of the first, so what the first did before it, also to key 1, comes
+/// before the second's read of key 1.
 fn in_turn(first: u32, second: u32) -> [Row; 6] {
     [
         write(first, 1, 7),

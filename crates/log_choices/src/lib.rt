@@ -6,8 +6,8 @@
 //!
 //! At run time a choice is a table of what null reads saw, each [`Seen`], by the places of their begins (`specs/ChoiceTables`). By it
 //! [`history_by`] gives the history, [`origins_by`] for each operation of it the call, and [`left_out_by`] the reads that it leaves out.
-//! [`forced_reads`] finds reads that are left with one candidate, or with none: a choice that each no by it makes a no of the log. The crate
-//! uses log_events and pattern_check.
+//! [`forced_reads`] finds what null reads saw that are left with one candidate: where the history by this choice does not meet a criterion,
+//! the log does not. The crate uses log_events and pattern_check.
 #![tactic(auto)]
 
 mod chosen_calls;
