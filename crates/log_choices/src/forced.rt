@@ -36,7 +36,7 @@ pub fn forced_reads(alloc: Global, log: &EventLog) -> Result<Table<Seen>, AllocE
     ensures forced { IfOk result (λ table. IsForcedChoice false log.now (choice_in table)) }
     ensures candidates { IfOk result (λ table. IsChoice false log.now (choice_in table)) }
 {
-    let mut found = Found::nothing(alloc, log);
+    let mut found = Found::nothing(alloc);
     if !is_within_limits(log) {
         return Ok(found.seen);
     }

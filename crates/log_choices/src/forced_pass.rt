@@ -1,8 +1,8 @@
 //! A pass over the calls of a log that finds what is forced.
 
-ghost use Rattle.std.specs.Prelude.{◌≡◌, ◌<◌, ◌≤◌, ◌+◌, ◌⊎◌, ℕ, All, Contains, IfOk, IsTrue, OnOk, Some, slice_get, vec_len};
+ghost use Rattle.std.specs.Prelude.{◌≡◌, ◌↔◌, ◌⊎◌, ◌<◌, ◌≤◌, ◌+◌, [], ℕ, All, Contains, IfOk, IsTrue, OnOk, Some, slice_get, vec_len};
 ghost use Rattle.log_events.specs.declared.event.ClientCall.TheVariants.{ReadOf};
-ghost use Rattle.log_events.specs.declared.event.Ending.TheVariants.{Got, GotNothing};
+ghost use Rattle.log_events.specs.declared.event.Ending.TheVariants.{Got, GotNothing, Failed, Lost};
 ghost use Rattle.log_events.specs.Events.{run_calls};
 ghost use Rattle.log_choices.specs.ForcedSteps.{AreForcedReads, AreFoundBelow, ArePasts};
 ghost use Rattle.log_choices.specs.ForcedSteps.{GetsNothing, IsAnswered, IsLook, IsPast, IsPastFrom, IsPlan};
@@ -27,10 +27,9 @@ pub(crate) struct Found {
 
 impl Found {
     /// Nothing, and no pass was made.
-    pub(crate) fn nothing(alloc: Global, log: &EventLog) -> Found
-        ensures { AreForcedReads log.now result.seen }
+    pub(crate) fn nothing(alloc: Global) -> Found
+        ensures { result.seen ≡ [] }
     {
-        let _log = log;
         Found {
             seen: Table::new(alloc),
             has_grown: true,
@@ -54,7 +53,7 @@ pub(crate) fn pass(
     ensures found { IfOk result (λ found. AreForcedReads log.now found.seen) }
 {
     let mut pasts = nothing_known(alloc, log)?;
-    let mut found = Found::nothing(alloc, log);
+    let mut found = Found::nothing(alloc);
     found.has_grown = false;
     for call in log.calls() {
         let client = call.client() as usize;
@@ -95,29 +94,46 @@ fn advance(
     log: &EventLog,
     plan: &mut Plan,
     call: &LoggedCall,
-    past: &mut Vec<u32>,
+    past: &mut [u32],
     earlier: &Table<Seen>,
     found: &mut Found,
 ) -> Result<(), AllocError>
     requires plan { IsPlan log.now plan.old }
     requires call { Contains (run_calls log.now) call.now }
-    requires past { IsPastFrom log.now call.now.client call.now.place past.old.items }
+    requires past { IsPastFrom log.now call.now.client call.now.place past.old }
     requires earlier { AreForcedReads log.now earlier.now }
     requires found { AreFoundBelow log.now call.now.place found.old.seen }
     ensures plan { OnOk result (IsPlan log.now plan.new) }
-    ensures past { OnOk result (IsPastFrom log.now call.now.client (call.now.place + 1) past.new.items) }
+    ensures past { OnOk result (IsPastFrom log.now call.now.client (call.now.place + 1) past.new) }
     ensures found { OnOk result (AreFoundBelow log.now (call.now.place + 1) found.new.seen) }
 {
     match call.call() {
         ClientCall::ReadOf(_) => look_back(alloc, log, plan, call, past, earlier, found)?,
         _ => keep(log, plan, call, past, found)?,
     }
+    go_past(log, call, past);
+    Ok(())
+}
+
+/// Adds a call to what comes before the later calls of its client, unless it failed or was lost.
+fn go_past(log: &EventLog, call: &LoggedCall, past: &mut [u32])
+    requires call { Contains (run_calls log.now) call.now }
+    requires here { IsPast log.now past.old call.now.place }
+    requires later { IsPastFrom log.now call.now.client call.now.place past.old ⊎ IsAnswered call.now.ending }
+    ensures { IsPastFrom log.now call.now.client (call.now.place + 1) past.new }
+{
     // It opens the log, so that its calls are known to be small.
     let _calls = log.calls();
-    if !matches!(call.ending(), Some(Ending::Failed | Ending::Lost)) {
+    if !is_lost_or_failed(call) {
         raise(past, call.client(), call.place());
     }
-    Ok(())
+}
+
+/// Whether a call failed or was lost.
+fn is_lost_or_failed(call: &LoggedCall) -> bool
+    ensures { IsTrue result ↔ (call.now.ending ≡ Some Lost ⊎ call.now.ending ≡ Some Failed) }
+{
+    matches!(call.ending(), Some(Ending::Lost | Ending::Failed))
 }
 
 /// Adds to what comes before a read what it saw, where that is known or found.
@@ -128,17 +144,17 @@ fn look_back(
     log: &EventLog,
     plan: &Plan,
     call: &LoggedCall,
-    past: &mut Vec<u32>,
+    past: &mut [u32],
     earlier: &Table<Seen>,
     found: &mut Found,
 ) -> Result<(), AllocError>
     requires plan { IsPlan log.now plan.now }
     requires call { Contains (run_calls log.now) call.now }
-    requires past { IsPast log.now past.old.items call.now.place }
+    requires past { IsPast log.now past.old call.now.place }
     requires earlier { AreForcedReads log.now earlier.now }
     requires found { AreFoundBelow log.now call.now.place found.old.seen }
-    ensures past { OnOk result (IsPast log.now past.new.items call.now.place) }
-    ensures unread { OnOk result (past.new.items ≡ past.old.items ⊎ IsAnswered call.now.ending) }
+    ensures past { OnOk result (IsPast log.now past.new call.now.place) }
+    ensures unread { OnOk result (past.new ≡ past.old ⊎ IsAnswered call.now.ending) }
     ensures found { OnOk result (AreFoundBelow log.now (call.now.place + 1) found.new.seen) }
 {
     // It opens the log, so that its calls are known to be small.
