@@ -1,15 +1,14 @@
 -- Where the calls of a run stand in its events, and how they ended.
-use Rattle.std.proofs.Common.{◌≡◌, ℕ, zero, suc, ◌+◌, ◌<◌, [], ◌∷◌, length, get_or, ap, sym, subst, ◌∙◌, refl, arith}
+use Rattle.std.proofs.Common.{◌≡◌, ℕ, zero, suc, ◌<◌, [], ◌∷◌, length, get_or, ap, sym, subst, ◌∙◌, arith}
 use Rattle.std.specs.Prelude.{◌≢◌, All, Contains, List, Option, Some, None, slice_get}
 use Rattle.std.proofs.lemmas.Option.{same_Some}
 use Rattle.std.proofs.lemmas.List.Elements.{All-contains}
 use Rattle.log_events.specs.declared.event.ClientCall.{ClientCall}
 use Rattle.log_events.specs.declared.event.ClientCall.TheVariants.{WriteTo, ReadOf, DeleteOf}
 use Rattle.log_events.specs.declared.event.Ending.{Ending}
-use Rattle.log_events.specs.declared.event.Ending.TheVariants.{Answered, Got, GotNothing, Failed, Lost}
+use Rattle.log_events.specs.declared.event.Ending.TheVariants.{Failed}
 use Rattle.log_events.specs.declared.event.Event.{Event}
-use Rattle.log_events.specs.declared.event.Event.TheVariants.{Begins}
-use Rattle.log_events.specs.Events.{Call, IsAt, IsEnded, run_calls}
+use Rattle.log_events.specs.Events.{Call, IsEnded, run_calls}
 use Rattle.log_events.proofs.CallKindsLaws.{Contains-place, place-Contains}
 use Rattle.log_events.proofs.CallPlaces.{IsCallAt, calls-from, ended-from, ended-to}
 use Rattle.log_choices.specs.ForcedSteps.{written_by, writing}

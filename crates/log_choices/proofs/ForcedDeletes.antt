@@ -1,6 +1,6 @@
 -- The deletes of a log that did not fail, as a list by key.
 use Rattle.std.proofs.Common.{◌≡◌, ℕ, zero, suc, ◌+◌, ◌-◌, ◌<◌, ◌≤◌, true, false, [], ◌∷◌, length, get_or, take, drop, map, refl, ap, sym, subst, ◌∙◌, ⊎_elim, arith, length-drop}
-use Rattle.std.specs.Prelude.{◌≢◌, ◌↔◌, Contains, List, Option, Some, option_map, filter_map, slice_get, IsPermutation, IsSortedByKey}
+use Rattle.std.specs.Prelude.{◌≢◌, Contains, List, Option, Some, option_map, filter_map, slice_get, IsPermutation, IsSortedByKey}
 use Rattle.std.specs.List.Sorted.{IsPartitionPoint}
 use Rattle.std.specs.Ordering.{nat_cmp}
 use Rattle.std.proofs.lemmas.Bool.{cases_lt, ltb-true, ltb-false, leb-true, leb-false}
@@ -14,7 +14,7 @@ use Rattle.log_events.specs.declared.event.Ending.{Ending}
 use Rattle.log_events.specs.declared.event.Ending.TheVariants.{Failed}
 use Rattle.log_events.specs.declared.event.Event.{Event}
 use Rattle.log_events.specs.declared.event.Event.TheVariants.{Begins}
-use Rattle.log_events.specs.Events.{Call, IsAt, IsEnded, run_calls}
+use Rattle.log_events.specs.Events.{Call, IsEnded, run_calls}
 use Rattle.log_events.specs.Steps.CallKinds.{deleted_key}
 use Rattle.log_events.proofs.CallKindsLaws.{Contains-place, place-Contains}
 use Rattle.log_events.proofs.CallPlaces.{call_at, calls-to, ended-from}

@@ -1,6 +1,6 @@
 -- What is found of a null read, by the deletes of its key.
-use Rattle.std.proofs.Common.{◌≡◌, ℕ, ◌<◌, [], ◌∷◌, refl, subst, arith}
-use Rattle.std.specs.Prelude.{◌↔◌, IsTrue, Bool, true, false, Contains, List, Some, None}
+use Rattle.std.proofs.Common.{◌≡◌, ℕ, subst}
+use Rattle.std.specs.Prelude.{◌↔◌, IsTrue, Bool, false, Contains, List, None}
 use Rattle.std.proofs.lemmas.List.Elements.{All-contains}
 use Rattle.log_events.specs.declared.event.Event.{Event}
 use Rattle.log_events.specs.declared.event.Event.TheVariants.{Starts}

@@ -1,20 +1,19 @@
 -- What a null read can have seen.
-use Rattle.std.proofs.Common.{◌≡◌, ℕ, ◌+◌, ◌<◌, ◌≤◌, [], ◌∷◌, ◌++◌, ap, sym, subst, ◌∙◌, refl, inl, inr, arith}
-use Rattle.std.specs.Prelude.{◌≢◌, ◌⊎◌, ⊤, Bool, false, true, List, All, Contains, Option, Some, None, IsTrue, slice_get}
+use Rattle.std.proofs.Common.{◌≡◌, ℕ, [], ◌∷◌, ◌++◌, ap, sym, subst, ◌∙◌, refl, inl, inr, arith}
+use Rattle.std.specs.Prelude.{◌≢◌, ◌⊎◌, Bool, false, true, List, All, Contains, Option, Some, None, IsTrue, slice_get}
 use Rattle.std.proofs.lemmas.Option.{same_Some}
 use Rattle.std.proofs.lemmas.List.Elements.{All-contains, All-push, Contains-append_left, Contains-append_right}
-use Rattle.log_events.specs.declared.event.ClientCall.{ClientCall}
-use Rattle.log_events.specs.declared.event.ClientCall.TheVariants.{WriteTo, ReadOf, DeleteOf}
-use Rattle.log_events.specs.declared.event.Ending.TheVariants.{GotNothing, Failed}
+use Rattle.log_events.specs.declared.event.ClientCall.TheVariants.{WriteTo, DeleteOf}
+use Rattle.log_events.specs.declared.event.Ending.TheVariants.{Failed}
 use Rattle.log_events.specs.declared.event.Event.{Event}
 use Rattle.log_events.specs.declared.event.Event.TheVariants.{Begins, Starts}
-use Rattle.log_events.specs.Events.{Call, IsAt, IsEnded, run_calls}
+use Rattle.log_events.specs.Events.{IsAt}
 use Rattle.log_events.specs.Histories.{is_deleted}
 use Rattle.log_events.proofs.CallPlaces.{call_at, calls-to, ended-from}
 use Rattle.log_events.proofs.ReadSources.{delete-names}
 use Rattle.log_choices.specs.Choices.{BeginsKeptDelete, IsCandidate, IsNullRead}
 use Rattle.log_choices.specs.Forced.{BeginsWriteOf, Comes, IsOut, after_read, replaced, start_replaced}
-use Rattle.log_choices.specs.ForcedSteps.{AreDeletes, GetsNothing, IsKeptWrite, IsLeft, IsLeftWith, IsLook, IsReplacing, look_by, writing}
+use Rattle.log_choices.specs.ForcedSteps.{GetsNothing, IsKeptWrite, IsLeft, IsLook, IsReplacing, look_by, writing}
 use Rattle.log_choices.proofs.ForcedCalls.{all-at}
 use Rattle.log_choices.specs.declared.forced_kept.Kept.{Kept}
 use Rattle.log_choices.specs.declared.forced_kept.Delete.{Delete}

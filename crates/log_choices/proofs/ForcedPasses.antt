@@ -2,8 +2,7 @@
 use Rattle.std.proofs.Common.{◌≡◌, ℕ, ◌+◌, ◌<◌, ◌≤◌, [], ◌∷◌, ◌++◌, length, get_or, set, ap, sym, subst, ◌∙◌, inl, inr, ⊎_elim, false, arith}
 use Rattle.std.proofs.lemmas.Bool.{cases_eq}
 use Rattle.std.proofs.lemmas.Option.{slice_get_within, get_or_from_slice_get, slice_get-get_or}
-use Rattle.std.specs.Prelude.{◌≢◌, ◌⊎◌, All, Contains, List, Option, Some, None, slice_get, slice_index, option_map, IsTrue}
-use Rattle.std.specs.Option.{option_copied}
+use Rattle.std.specs.Prelude.{◌≢◌, ◌⊎◌, All, Contains, List, Some, slice_get, slice_index, option_map}
 use Rattle.std.specs.List.Sorted.{IsStrictlyIncreasing}
 use Rattle.std.specs.Map.{keys_of}
 use Rattle.std.specs.declared.vec.Vec.{Vec}
@@ -51,7 +50,7 @@ rising-push table r s rising below =
 
 module _ (es : List Event) where
   pub none-forced : AreForcedReads es []
-  none-forced = record { seen = λ k e below. absurd (omega arith); rising = λ i inside. absurd (omega arith); }
+  none-forced = record { seen = λ k e below. absurd (omega arith); rising = λ i inside. absurd (omega arith) }
 
   pub found-pushed : (table : List (ℕ × Seen)) (r : ℕ) (s : Seen) → AreFoundBelow es r table → IsLeftWith es r (seen_of s)
       → AreFoundBelow es (r + 1) (table ++ (r, s) ∷ [])
@@ -165,7 +164,7 @@ module _ (es : List Event) where
     later = λ k a above at. omega arith;
     planned = is;
     known = all 0;
-    found = record { forced = none-forced; below = λ k e below. absurd (omega arith); };
+    found = record { forced = none-forced; below = λ k e below. absurd (omega arith) };
   }
 
   -- after a call
@@ -175,12 +174,12 @@ module _ (es : List Event) where
       → IsPassed (i + 1) after (set pasts k past) more
   passed-next {Z} i k plan after pasts past table more a passed at same is own found =
       subst (λ (n : ℕ). IsPassed (i + 1) after (set pasts n past) more) (sym same) (record {
-    from = a.place + 1;
-    later = λ m b above there. let less = calls-rise 0 es i m a b (omega arith) at there in omega arith;
-    planned = is;
-    known = each;
-    found = found;
-  })
+        from = a.place + 1;
+        later = λ m b above there. let less = calls-rise 0 es i m a b (omega arith) at there in omega arith;
+        planned = is;
+        known = each;
+        found = found;
+      })
     where
       first : passed.from ≤ a.place
       first = passed.later i a (omega arith) at

@@ -1,15 +1,13 @@
 -- What a pass has found is forced.
-use Rattle.std.proofs.Common.{◌≡◌, ℕ, ◌<◌, ap, sym, subst, ◌∙◌, refl, eqb-true}
-use Rattle.std.specs.Prelude.{◌≢◌, ◌==◌, All, Contains, Bool, true, false, List, Option, Some, None, option_map}
+use Rattle.std.proofs.Common.{◌≡◌, ℕ, sym, subst, ◌∙◌, refl, eqb-true}
+use Rattle.std.specs.Prelude.{◌==◌, All, Contains, false, List, Option, Some, None, option_map}
 use Rattle.std.proofs.lemmas.List.Elements.{All-contains}
 use Rattle.std.proofs.lemmas.Map.Views.{Contains-from_lookup}
 use Rattle.std.proofs.lemmas.Option.{same_Some}
 use Rattle.model_objects.specs.Table.{value_at}
-use Rattle.log_events.specs.declared.event.ClientCall.TheVariants.{ReadOf}
 use Rattle.log_events.specs.declared.event.Event.{Event}
-use Rattle.log_events.specs.declared.event.Event.TheVariants.{Begins}
 use Rattle.log_choices.specs.Choices.{IsCandidate, IsChoice, IsNullRead}
-use Rattle.log_choices.specs.Forced.{IsForcedChoice, IsOut}
+use Rattle.log_choices.specs.Forced.{IsForcedChoice}
 use Rattle.log_choices.specs.ForcedSteps.{IsLeftWith}
 use Rattle.log_choices.specs.ChoiceTables.{choice_in, seen_of}
 use Rattle.log_choices.specs.declared.seen.Seen.{Seen}

@@ -1,8 +1,8 @@
-use Rattle.std.proofs.Common.{◌≡◌, ◌∙◌, ap, sym, ℕ, map}
-use Rattle.std.specs.Prelude.{Option, Some, option_map, filter_map}
+use Rattle.std.proofs.Common.{◌∙◌, ap, sym, ℕ}
+use Rattle.std.specs.Prelude.{Option, Some, option_map}
 use Rattle.std.proofs.lemmas.List.{map-append}
 use Rattle.log_events.proofs.Loops.{filter_map_more-some, filter_map_more-none}
-use Rattle.log_choices.specs.ForcedSteps.{deleted_spot, spot_of}
+use Rattle.log_choices.specs.ForcedSteps.{deleted_spot}
 use Rattle.log_choices.proofs.forced_kept.listed_deletes.Goals as goal
 use Rattle.log_choices.proofs.forced_kept.listed_deletes.Goals.{in-Some+in_ok-push, in_default}
 

@@ -11,7 +11,7 @@ returns-then-not-is_lost_or_failed c =
     let old = c.args.past.now in
     let new = c.raise.new.past in
     let stays : a.ending ≡ Some Lost ⊎ a.ending ≡ Some Failed → ⊥ = λ ended.
-        let wrong : IsTrue false = subst IsTrue c.if-not-is_lost_or_failed.true (c.is_lost_or_failed.ensures.1 ended) in absurd cc in
+    let wrong : IsTrue false = subst IsTrue c.if-not-is_lost_or_failed.true (c.is_lost_or_failed.ensures.1 ended) in absurd cc in
     let raised = subst (λ (n : ℕ). IsRaised old new n a.place) c.client.ensures
     (subst (λ (n : ℕ). IsRaised old new c.client.result n) c.place.ensures c.raise.ensures) in
     gone-past c.args.log.now a old new c.requires.call stays raised c.requires.here

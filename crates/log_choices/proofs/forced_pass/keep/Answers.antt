@@ -22,4 +22,4 @@ returns-in_ok-renew-clause-plan c =
     ap (λ (k : Kept). k.place) same ∙ c.if-index-place.true ∙ c.place-then-number-len.ensures in
     let past = subst (λ (l : List ℕ). IsPast es l w.place) (sym items) (subst (IsPast es c.args.past.now) (sym place) c.requires.past) in
     let kept = kept-renewed es w v (all-at (IsKeptWrite es) writes n w c.requires.plan.writes at) is past in
-    record { writes = All-set (IsKeptWrite es) writes n v kept c.requires.plan.writes; deletes = c.requires.plan.deletes; }
+    record { writes = All-set (IsKeptWrite es) writes n v kept c.requires.plan.writes; deletes = c.requires.plan.deletes }

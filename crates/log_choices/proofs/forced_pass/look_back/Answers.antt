@@ -1,4 +1,4 @@
-use Rattle.std.proofs.Common.{sym, subst, List}
+use Rattle.std.proofs.Common.{sym, subst}
 use Rattle.std.specs.Prelude.{All}
 use Rattle.std.proofs.lemmas.List.Elements.{All-contains}
 use Rattle.log_events.specs.Events.{run_calls}
@@ -13,7 +13,7 @@ seen_by-requires-clause-read c =
     let a = c.args.call.now in
     let all = subst (All IsSmallCall) c.calls-calls.ensures.exact c.calls-calls.ensures.small in
     gets-nothing es a c.requires.call (All-contains IsSmallCall (run_calls es) a all c.requires.call) _ c.client.ensures c.place.ensures
-    (sym c.in-ReadOf-Some-GotNothing.ensures) (sym c.in-ReadOf-Some-GotNothing.ensures')
+    (sym c.in-ReadOf-Some-GotNothing.ensures) cc
 
 pub seen_by-requires-clause-past : goal.seen_by-requires-clause-past
 seen_by-requires-clause-past c = subst (IsPast c.args.log.now c.args.past.now) (sym c.place.ensures) c.requires.past
@@ -24,7 +24,7 @@ put_down-requires-clause-read c =
     let a = c.args.call.now in
     let all = subst (All IsSmallCall) c.calls-calls.ensures.exact c.calls-calls.ensures.small in
     gets-nothing es a c.requires.call (All-contains IsSmallCall (run_calls es) a all c.requires.call) _ c.client.ensures c.place.ensures
-    (sym c.in-ReadOf-Some-GotNothing.ensures) (sym c.in-ReadOf-Some-GotNothing.ensures')
+    (sym c.in-ReadOf-Some-GotNothing.ensures) cc
 
 pub put_down-requires-clause-past : goal.put_down-requires-clause-past
 put_down-requires-clause-past c = subst (IsPast c.args.log.now c.args.past.now) (sym c.place.ensures) c.requires.past

@@ -1,6 +1,6 @@
-use Rattle.std.proofs.Common.{◌≡◌, ◌<◌, ◌+◌, ℕ, length, take, drop, take_at, sym, subst, List, Vec, Global, arith}
+use Rattle.std.proofs.Common.{◌≡◌, ◌<◌, ◌+◌, ◌++◌, ℕ, length, take, drop, take_at, sym, subst, List, Vec, Global, arith}
 use Rattle.std.specs.Prelude.{Some, slice_get}
-use Rattle.log_events.specs.Events.{Call, run_calls}
+use Rattle.log_events.specs.Events.{Call}
 use Rattle.log_choices.specs.ForcedSteps.{IsPastFrom}
 use Rattle.log_choices.specs.declared.seen.Seen.{Seen}
 use Rattle.log_choices.proofs.ForcedCalls.{get-at}
@@ -50,8 +50,13 @@ loop-call-preserved c =
     (get-at c.calls-call-items.result.now i a c.loop-call-test.true c.call-item.is) in
     elim c.if-client-len.branch [
       | then-client-len+in_ok-advance w ↦
+          let new = w.advance.new.past in
+          let old = w.index_mut.result.now in
+          let long : length new ≡ old.len = omega arith in
+          let whole : take old.len (new ++ drop (length new) old.items) ≡ new = take_at new (drop (length new) old.items) old.len long in
           rw (w.plan-is, w.pasts-is, w.found-is)
           (passed-next es i k plan w.advance.new.plan pasts _ table w.advance.new.found.seen a c.loop-call.invariant at
-          c.client-client.ensures w.in_ok-advance.ensures.plan ? w.in_ok-advance.ensures.found)
+          c.client-client.ensures w.in_ok-advance.ensures.plan
+          (subst (IsPastFrom es a.client (a.place + 1)) (sym whole) w.in_ok-advance.ensures.past) w.in_ok-advance.ensures.found)
       | else-client-len w ↦ rw (w.plan-is, w.pasts-is, w.found-is) (passed-over es i plan pasts table c.loop-call.invariant)
     ]

@@ -1,5 +1,5 @@
-use Rattle.std.proofs.Common.{◌≡◌, ◌+◌, ℕ, sym, subst, List}
-use Rattle.std.specs.Prelude.{Option, Some, false}
+use Rattle.std.proofs.Common.{◌+◌, ℕ, sym, subst, List}
+use Rattle.std.specs.Prelude.{Option, false}
 use Rattle.std.proofs.lemmas.List.Elements.{All-contains}
 use Rattle.log_choices.specs.ChoiceTables.{seen_of}
 use Rattle.log_choices.specs.Forced.{Comes}

@@ -1,4 +1,4 @@
-use Rattle.std.proofs.Common.{◌≡◌, sym, subst, List, ℕ}
+use Rattle.std.proofs.Common.{sym, subst, List, ℕ}
 use Rattle.model_objects.specs.Table.{IsRising}
 use Rattle.log_events.proofs.StartTables.{start-rising}
 use Rattle.log_choices.proofs.ForcedStarts.{started-some, started-none}
