@@ -1,18 +1,17 @@
 -- Histories of some logs by choices, computed; and a lost write behind a delete, which is a no.
-use Rattle.std.proofs.Common.{◌≡◌, ℕ, zero, suc, ◌<◌, Bool, List, [], ◌∷◌, refl, ap, inl, inr, arith}
+use Rattle.std.proofs.Common.{◌≡◌, ℕ, zero, suc, Bool, List, [], ◌∷◌, refl, inl, arith}
 use Rattle.std.specs.Prelude.{◌≢◌, Option, Some, None}
-use Rattle.std.proofs.lemmas.Option.{same_Some}
 use Rattle.model_objects.specs.declared.register.RegisterRet.TheVariants.{Done, Value}
 use Rattle.log_events.specs.declared.event.ClientCall.TheVariants.{WriteTo, ReadOf, DeleteOf}
 use Rattle.log_events.specs.declared.event.Ending.{Ending}
-use Rattle.log_events.specs.declared.event.Ending.TheVariants.{Answered, Got, GotNothing, Failed, Lost}
+use Rattle.log_events.specs.declared.event.Ending.TheVariants.{Answered, GotNothing, Failed, Lost}
 use Rattle.log_events.specs.declared.event.Event.{Event}
-use Rattle.log_events.specs.declared.event.Event.TheVariants.{Starts, Begins, Ends}
-use Rattle.log_events.specs.Events.{IsAt, IsEnded}
+use Rattle.log_events.specs.declared.event.Event.TheVariants.{Begins, Ends}
+use Rattle.log_events.specs.Events.{IsAt}
 use Rattle.log_events.specs.Histories.{write, read}
-use Rattle.log_choices.specs.Choices.{Choice, IsCandidate, IsNullRead, leaves_out}
+use Rattle.log_choices.specs.Choices.{IsCandidate, IsNullRead, leaves_out}
 use Rattle.log_choices.specs.ChosenHistories.{history_by}
-use Rattle.log_choices.specs.Forced.{BeginsWriteOf, Comes, FollowsInSession, IsOut, LacksCandidates, in_session, replaced, start_replaced}
+use Rattle.log_choices.specs.Forced.{BeginsWriteOf, Comes, IsOut, LacksCandidates, in_session, replaced, start_replaced}
 
 -- a lost delete, and a read that found nothing
 lost_delete : List Event

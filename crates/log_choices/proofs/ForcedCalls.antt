@@ -1,15 +1,14 @@
 -- Where the calls of a run stand in its events, and how they ended.
-use Rattle.std.proofs.Common.{◌≡◌, ℕ, zero, suc, ◌+◌, ◌<◌, [], ◌∷◌, length, get_or, ap, sym, subst, ◌∙◌, refl, arith}
+use Rattle.std.proofs.Common.{◌≡◌, ℕ, zero, suc, ◌<◌, [], ◌∷◌, length, get_or, ap, sym, subst, ◌∙◌, arith}
 use Rattle.std.specs.Prelude.{◌≢◌, All, Contains, List, Option, Some, None, slice_get}
 use Rattle.std.proofs.lemmas.Option.{same_Some}
 use Rattle.std.proofs.lemmas.List.Elements.{All-contains}
 use Rattle.log_events.specs.declared.event.ClientCall.{ClientCall}
 use Rattle.log_events.specs.declared.event.ClientCall.TheVariants.{WriteTo, ReadOf, DeleteOf}
 use Rattle.log_events.specs.declared.event.Ending.{Ending}
-use Rattle.log_events.specs.declared.event.Ending.TheVariants.{Answered, Got, GotNothing, Failed, Lost}
+use Rattle.log_events.specs.declared.event.Ending.TheVariants.{Failed}
 use Rattle.log_events.specs.declared.event.Event.{Event}
-use Rattle.log_events.specs.declared.event.Event.TheVariants.{Begins}
-use Rattle.log_events.specs.Events.{Call, IsAt, IsEnded, run_calls}
+use Rattle.log_events.specs.Events.{Call, IsEnded, run_calls}
 use Rattle.log_events.proofs.CallKindsLaws.{Contains-place, place-Contains}
 use Rattle.log_events.proofs.CallPlaces.{IsCallAt, calls-from, ended-from, ended-to}
 use Rattle.log_choices.specs.ForcedSteps.{written_by, writing}
@@ -48,11 +47,3 @@ written-is (DeleteOf y) (Some Failed) x v is = absurd cc
 written-is (DeleteOf y) ending x v is = (writing-same (y, None) (x, v) is, λ failed. absurd cc)
 written-is (ReadOf y) (Some Failed) x v is = absurd cc
 written-is (ReadOf y) ending x v is = absurd cc
-
--- a delete that did not fail is one
-pub delete-written : (call : ClientCall) (ending : Option Ending) (x : ℕ) → call ≡ DeleteOf x → ending ≢ Some Failed
-    → written_by call ending ≡ Some (x, None)
-delete-written (WriteTo y u) ending x is stays = absurd cc
-delete-written (ReadOf y) ending x is stays = absurd cc
-delete-written (DeleteOf y) (Some Failed) x is stays = absurd (stays refl)
-delete-written (DeleteOf y) ending x is stays = let same : y ≡ x = cc in let f : ℕ → Option (ℕ × Option ℕ) = λ n. Some (n, None) in ap f same

@@ -1,6 +1,6 @@
 -- The deletes of a log that did not fail, as a list by key.
 use Rattle.std.proofs.Common.{◌≡◌, ℕ, zero, suc, ◌+◌, ◌-◌, ◌<◌, ◌≤◌, true, false, [], ◌∷◌, length, get_or, take, drop, map, refl, ap, sym, subst, ◌∙◌, ⊎_elim, arith, length-drop}
-use Rattle.std.specs.Prelude.{◌≢◌, ◌↔◌, Contains, List, Option, Some, None, filter_map, slice_get, IsPermutation, IsSortedByKey}
+use Rattle.std.specs.Prelude.{◌≢◌, Contains, List, Option, Some, option_map, filter_map, slice_get, IsPermutation, IsSortedByKey}
 use Rattle.std.specs.List.Sorted.{IsPartitionPoint}
 use Rattle.std.specs.Ordering.{nat_cmp}
 use Rattle.std.proofs.lemmas.Bool.{cases_lt, ltb-true, ltb-false, leb-true, leb-false}
@@ -9,18 +9,20 @@ use Rattle.std.proofs.lemmas.List.Elements.{Contains-get_or}
 use Rattle.std.proofs.lemmas.List.Sorted.{Contains-permutation, IsPermutation-sym}
 use Rattle.std.proofs.lemmas.Option.{same_Some}
 use Rattle.log_events.specs.declared.event.ClientCall.{ClientCall}
-use Rattle.log_events.specs.declared.event.ClientCall.TheVariants.{DeleteOf}
+use Rattle.log_events.specs.declared.event.ClientCall.TheVariants.{WriteTo, ReadOf, DeleteOf}
+use Rattle.log_events.specs.declared.event.Ending.{Ending}
 use Rattle.log_events.specs.declared.event.Ending.TheVariants.{Failed}
 use Rattle.log_events.specs.declared.event.Event.{Event}
 use Rattle.log_events.specs.declared.event.Event.TheVariants.{Begins}
-use Rattle.log_events.specs.Events.{Call, IsAt, IsEnded, run_calls}
+use Rattle.log_events.specs.Events.{Call, IsEnded, run_calls}
+use Rattle.log_events.specs.Steps.CallKinds.{deleted_key}
 use Rattle.log_events.proofs.CallKindsLaws.{Contains-place, place-Contains}
 use Rattle.log_events.proofs.CallPlaces.{call_at, calls-to, ended-from}
 use Rattle.log_events.proofs.ListPlaces.{filter_map-from, filter_map-to}
 use Rattle.log_choices.specs.Choices.{BeginsKeptDelete}
-use Rattle.log_choices.specs.ForcedSteps.{AreDeletes, deleted_spot, spot_in, spot_of}
+use Rattle.log_choices.specs.ForcedSteps.{AreDeletes, deleted_spot, spot_of}
 use Rattle.log_choices.specs.declared.forced_kept.Delete.{Delete}
-use Rattle.log_choices.proofs.ForcedCalls.{call-placed, call-unended, written-is, delete-written}
+use Rattle.log_choices.proofs.ForcedCalls.{call-placed, call-unended}
 use lib.Dec.{ltb, leb}
 
 -- the part of a list by key that has one key
@@ -80,12 +82,22 @@ map-from f [] k y at = absurd cc
 map-from f (x ∷ xs) zero y at = (x, refl, same_Some _ _ at)
 map-from f (x ∷ xs) (suc k) y at = map-from f xs k y at
 
-spot-is : (place : ℕ) (o : Option (ℕ × Option ℕ)) (s : ℕ × ℕ) → spot_in place o ≡ Some s → (o ≡ Some (s.0, None)) × (place ≡ s.1)
-spot-is place None s is = absurd cc
-spot-is place (Some (x, Some v)) s is = absurd cc
-spot-is place (Some (x, None)) s is =
+spot-is : (call : ClientCall) (ending : Option Ending) (place : ℕ) (s : ℕ × ℕ)
+    → option_map (λ (x : ℕ). (x, place)) (deleted_key call ending) ≡ Some s
+    → (call ≡ DeleteOf s.0) × (ending ≢ Some Failed) × (place ≡ s.1)
+spot-is (WriteTo x v) ending place s is = absurd cc
+spot-is (ReadOf x) ending place s is = absurd cc
+spot-is (DeleteOf x) (Some Failed) place s is = absurd cc
+spot-is (DeleteOf x) ending place s is =
     let same = same_Some _ _ is in
-    let f : ℕ × ℕ → Option (ℕ × Option ℕ) = λ t. Some (t.0, None) in (ap f same, ap (λ (t : ℕ × ℕ). t.1) same)
+    (ap (λ (t : ℕ × ℕ). DeleteOf t.0) same, λ failed. absurd cc, ap (λ (t : ℕ × ℕ). t.1) same)
+
+delete-key : (call : ClientCall) (ending : Option Ending) (x : ℕ) → call ≡ DeleteOf x → ending ≢ Some Failed
+    → deleted_key call ending ≡ Some x
+delete-key (WriteTo y u) ending x is stays = absurd cc
+delete-key (ReadOf y) ending x is stays = absurd cc
+delete-key (DeleteOf y) (Some Failed) x is stays = absurd (stays refl)
+delete-key (DeleteOf y) ending x is stays = let same : y ≡ x = cc in ap Some same
 
 module _ (es : List Event) (listed : List Delete) (is : map spot_of listed ≡ filter_map deleted_spot (run_calls es)) where
   kept-from : (d : Delete) → Contains listed d → BeginsKeptDelete es d.key d.place
@@ -93,8 +105,7 @@ module _ (es : List Event) (listed : List Delete) (is : map spot_of listed ≡ f
       let (k, at) = Contains-place listed d there in
       let given = subst (λ (l : List (ℕ × ℕ)). slice_get l k ≡ Some (spot_of d)) is (map-at spot_of listed k d at) in
       let (m, a, called, spot, _) = filter_map-from deleted_spot (run_calls es) k (spot_of d) given in
-      let (written, place) = spot-is a.place _ (spot_of d) spot in
-      let (call, stays) = written-is a.call a.ending d.key None written in
+      let (call, stays, place) = spot-is a.call a.ending a.place (spot_of d) spot in
       let run = place-Contains (run_calls es) m a called in
       subst (λ (n : ℕ). BeginsKeptDelete es d.key n) place (
         a.client,
@@ -108,7 +119,7 @@ module _ (es : List Event) (listed : List Delete) (is : map spot_of listed ≡ f
       let a : Call = call_at 0 p es client (DeleteOf x) in
       let (m, called) = calls-to 0 es p client (DeleteOf x) at in
       let not_failed : a.ending ≢ Some Failed = λ failed. let end = ended-from es p a Failed (record { begun = at; ended = refl }) failed in stays end.0 end.1 in
-      let spot : deleted_spot a ≡ Some (x, a.place) = ap (spot_in a.place) (delete-written a.call a.ending x refl not_failed) in
+      let spot : deleted_spot a ≡ Some (x, a.place) = ap (option_map (λ (y : ℕ). (y, a.place))) (delete-key a.call a.ending x refl not_failed) in
       let (k, given) = filter_map-to deleted_spot (run_calls es) m a (x, a.place) called spot in
       let (d, there, same) = map-from spot_of listed k (x, a.place) (subst (λ (l : List (ℕ × ℕ)). slice_get l k ≡ Some (x, a.place)) (sym is) given) in
       let place : d.place ≡ 0 + p = ap (λ (t : ℕ × ℕ). t.1) same in

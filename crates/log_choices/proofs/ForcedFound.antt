@@ -1,6 +1,6 @@
 -- What is found of a null read, by the deletes of its key.
-use Rattle.std.proofs.Common.{◌≡◌, ℕ, ◌<◌, [], ◌∷◌, refl, subst, arith}
-use Rattle.std.specs.Prelude.{◌↔◌, IsTrue, Bool, true, false, Contains, List, Some, None}
+use Rattle.std.proofs.Common.{◌≡◌, ℕ, subst}
+use Rattle.std.specs.Prelude.{◌↔◌, IsTrue, Bool, false, Contains, List, None}
 use Rattle.std.proofs.lemmas.List.Elements.{All-contains}
 use Rattle.log_events.specs.declared.event.Event.{Event}
 use Rattle.log_events.specs.declared.event.Event.TheVariants.{Starts}
@@ -13,25 +13,20 @@ use Rattle.log_choices.specs.declared.forced_looks.Left.{Left}
 use Rattle.log_choices.specs.declared.forced_looks.NullRead.{NullRead}
 use Rattle.log_choices.proofs.ForcedLooks.{look-from}
 
-some-element : {X : Type 0} (xs : List X) → (xs ≡ [] → ⊥) → (x : X) × Contains xs x
-some-element [] full = absurd (full refl)
-some-element (x ∷ xs) full = (x, (0, omega arith, refl))
-
 pub look-is : (es : List Event) (read : NullRead) (gets : GetsNothing es read) (deletes part : List Delete) → AreDeletes es deletes
-    → ((d : Delete) → Contains part d ↔ (Contains deletes d × (d.key ≡ read.key))) → (part ≡ [] → ⊥) → (left : Left) (b : Bool)
-    → IsLeft es read.place part left → (IsTrue b → (k v : ℕ) → ¬ IsAt es k (Starts read.key v))
-    → (b ≡ false → (p : ℕ) → BeginsKeptDelete es read.key p → ((k v : ℕ) → ¬ IsAt es k (Starts read.key v)) → IsOut false es read.place None)
-    → IsLook es read.place (look_by left b)
-look-is es read gets deletes part are exact full left b outs start out =
-    look-from es read gets part (first.0.place) (listed first.0 first.1) listed lists left b outs start (λ no. out no first.0.place (listed first.0 first.1))
+    → ((d : Delete) → Contains part d ↔ (Contains deletes d × (d.key ≡ read.key))) → (first : Delete) → Contains part first
+    → (left : Left) (b : Bool) → IsLeft es read.place part left → (IsTrue b → (k v : ℕ) → ¬ IsAt es k (Starts read.key v))
+    → (b ≡ false → (p : ℕ) → BeginsKeptDelete es read.key p → ((k v : ℕ) → ¬ IsAt es k (Starts read.key v))
+    → IsOut false es read.place None) → IsLook es read.place (look_by left b first)
+look-is es read gets deletes part are exact first within left b outs start out =
+    look-from es read gets part first.place (listed first within) listed lists left b outs start
+    (λ no. out no first.place (listed first within)) first within
   where
-    first : (d : Delete) × Contains part d
-    first = some-element part full
-
     listed : (d : Delete) → Contains part d → BeginsKeptDelete es read.key d.place
     listed d there =
         let both = (exact d).0 there in
-        subst (λ (x : ℕ). BeginsKeptDelete es x d.place) both.1 (All-contains (λ (e : Delete). BeginsKeptDelete es e.key e.place) deletes d are.listed both.0)
+        subst (λ (x : ℕ). BeginsKeptDelete es x d.place) both.1
+        (All-contains (λ (e : Delete). BeginsKeptDelete es e.key e.place) deletes d are.listed both.0)
 
     lists : (p : ℕ) → BeginsKeptDelete es read.key p → (d : Delete) × Contains part d × (d.place ≡ p)
     lists p begins = let (d, there, key, place) = are.lists read.key p begins in (d, (exact d).1 (there, key), place)

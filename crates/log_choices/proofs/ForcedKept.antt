@@ -1,6 +1,6 @@
 -- Calls as writes and deletes that did not fail.
 use Rattle.std.proofs.Common.{◌≡◌, ℕ, suc, ◌<◌, ap, sym, subst, ◌∙◌, arith}
-use Rattle.std.specs.Prelude.{◌≢◌, Contains, false, List, Option, Some, slice_get, slice_index}
+use Rattle.std.specs.Prelude.{◌≢◌, Contains, false, List, Some, slice_get, slice_index}
 use Rattle.log_events.specs.declared.event.ClientCall.{ClientCall}
 use Rattle.log_events.specs.declared.event.ClientCall.TheVariants.{ReadOf}
 use Rattle.log_events.specs.declared.event.Ending.{Ending}
@@ -8,15 +8,15 @@ use Rattle.log_events.specs.declared.event.Ending.TheVariants.{GotNothing, Faile
 use Rattle.log_events.specs.declared.event.Event.{Event}
 use Rattle.log_events.specs.declared.event.Event.TheVariants.{Begins}
 use Rattle.log_events.specs.declared.limits.TheConstants.{MAX_EVENTS}
-use Rattle.log_events.specs.Events.{Call, IsAt, IsEnded, run_calls}
+use Rattle.log_events.specs.Events.{Call, IsEnded, run_calls}
 use Rattle.log_events.proofs.CallPlaces.{ended-to}
 use Rattle.log_choices.specs.Forced.{Comes, through}
-use Rattle.log_choices.specs.ForcedSteps.{GetsNothing, IsKeptWrite, IsPast, written_by, writing}
+use Rattle.log_choices.specs.ForcedSteps.{GetsNothing, IsKeptWrite, written_by, writing}
 use Rattle.log_choices.specs.declared.forced_kept.Kept.{Kept}
 use Rattle.log_choices.specs.declared.forced_looks.NullRead.{NullRead}
 use Rattle.log_choices.proofs.ForcedCalls.{call-placed, call-unended, written-is}
 use Rattle.log_choices.proofs.ForcedPasts.{session-comes}
-use Rattle.std.proofs.Common.{⊎_elim, ◌-◌, ◌+◌}
+use Rattle.std.proofs.Common.{⊎_elim, ◌-◌}
 use Rattle.std.proofs.lemmas.Bool.{cases_eq}
 
 module _ (es : List Event) where

@@ -1,20 +1,19 @@
 -- What a null read can have seen.
-use Rattle.std.proofs.Common.{◌≡◌, ℕ, ◌+◌, ◌<◌, ◌≤◌, [], ◌∷◌, ◌++◌, ap, sym, subst, ◌∙◌, refl, inl, inr, arith}
-use Rattle.std.specs.Prelude.{◌≢◌, ◌⊎◌, ⊤, Bool, false, true, List, All, Contains, Option, Some, None, IsTrue, slice_get}
+use Rattle.std.proofs.Common.{◌≡◌, ℕ, [], ◌∷◌, ◌++◌, ap, sym, subst, ◌∙◌, refl, inl, inr, arith}
+use Rattle.std.specs.Prelude.{◌≢◌, ◌⊎◌, Bool, false, true, List, All, Contains, Option, Some, None, IsTrue, slice_get}
 use Rattle.std.proofs.lemmas.Option.{same_Some}
 use Rattle.std.proofs.lemmas.List.Elements.{All-contains, All-push, Contains-append_left, Contains-append_right}
-use Rattle.log_events.specs.declared.event.ClientCall.{ClientCall}
-use Rattle.log_events.specs.declared.event.ClientCall.TheVariants.{WriteTo, ReadOf, DeleteOf}
-use Rattle.log_events.specs.declared.event.Ending.TheVariants.{GotNothing, Failed}
+use Rattle.log_events.specs.declared.event.ClientCall.TheVariants.{WriteTo, DeleteOf}
+use Rattle.log_events.specs.declared.event.Ending.TheVariants.{Failed}
 use Rattle.log_events.specs.declared.event.Event.{Event}
 use Rattle.log_events.specs.declared.event.Event.TheVariants.{Begins, Starts}
-use Rattle.log_events.specs.Events.{Call, IsAt, IsEnded, run_calls}
+use Rattle.log_events.specs.Events.{IsAt}
 use Rattle.log_events.specs.Histories.{is_deleted}
 use Rattle.log_events.proofs.CallPlaces.{call_at, calls-to, ended-from}
 use Rattle.log_events.proofs.ReadSources.{delete-names}
 use Rattle.log_choices.specs.Choices.{BeginsKeptDelete, IsCandidate, IsNullRead}
-use Rattle.log_choices.specs.Forced.{BeginsWriteOf, Comes, IsOut, LacksCandidates, after_read, replaced, start_replaced}
-use Rattle.log_choices.specs.ForcedSteps.{AreDeletes, GetsNothing, IsKeptWrite, IsLeft, IsLeftWith, IsLook, IsReplacing, look_by, writing}
+use Rattle.log_choices.specs.Forced.{BeginsWriteOf, Comes, IsOut, after_read, replaced, start_replaced}
+use Rattle.log_choices.specs.ForcedSteps.{GetsNothing, IsKeptWrite, IsLeft, IsLook, IsReplacing, look_by, writing}
 use Rattle.log_choices.proofs.ForcedCalls.{all-at}
 use Rattle.log_choices.specs.declared.forced_kept.Kept.{Kept}
 use Rattle.log_choices.specs.declared.forced_kept.Delete.{Delete}
@@ -76,8 +75,8 @@ module _ (es : List Event) where
       pub look-from : (left : Left) (b : Bool) → IsLeft es read.place deletes left
           → (b ≡ true → (k v : ℕ) → ¬ IsAt es k (Starts read.key v))
           → (b ≡ false → IsCandidate false es read.key gets.ends None → IsOut false es read.place None)
-          → IsLook es read.place (look_by left b)
-      look-from NoneLeft true outs start out = record {
+          → (first : Delete) → Contains deletes first → IsLook es read.place (look_by left b first)
+      look-from NoneLeft true outs start out first within = record {
         client = read.client;
         key = read.key;
         ends = gets.ends;
@@ -89,12 +88,19 @@ module _ (es : List Event) where
           others : (d : Option ℕ) → IsCandidate false es read.key gets.ends d → d ≢ None → IsOut false es read.place d
           others None candidate other = absurd (other refl)
           others (Some p) candidate other = out-of (λ (n : ℕ). IsOut false es read.place (Some n)) (λ d there. All-contains (λ (e : Delete). IsOut false es read.place (Some e.place)) deletes d outs there) p candidate.0
-      look-from NoneLeft false outs start out = (read.client, read.key, gets.ends, null-read q kept, each)
+      look-from NoneLeft false outs start out first within = record {
+        client = read.client;
+        key = read.key;
+        ends = gets.ends;
+        null = null-read q kept;
+        candidate = (listed first within, λ in_time. absurd cc);
+        others = λ d candidate other. each d candidate;
+      }
         where
           each : (c : Option ℕ) → IsCandidate false es read.key gets.ends c → IsOut false es read.place c
           each None candidate = out refl candidate
           each (Some p) candidate = out-of (λ (n : ℕ). IsOut false es read.place (Some n)) (λ d there. All-contains (λ (e : Delete). IsOut false es read.place (Some e.place)) deletes d outs there) p candidate.0
-      look-from (OneLeft e) false (there, outs) start out = record {
+      look-from (OneLeft e) false (there, outs) start out first within = record {
         client = read.client;
         key = read.key;
         ends = gets.ends;
@@ -108,8 +114,8 @@ module _ (es : List Event) where
           others (Some p) candidate other =
               out-of (λ (n : ℕ). n ≢ e.place → IsOut false es read.place (Some n)) (λ d here. All-contains (λ (a : Delete). a.place ≢ e.place → IsOut false es read.place (Some a.place)) deletes d outs here) p candidate.0
               (λ same. other (ap (λ (n : ℕ). Some n) same))
-      look-from (OneLeft e) true outs start out = tt
-      look-from MoreLeft b outs start out = tt
+      look-from (OneLeft e) true outs start out first within = tt
+      look-from MoreLeft b outs start out first within = tt
 
 module _ (es : List Event) (r : ℕ) where
   -- one more delete that the read can't have seen, and the first that it can

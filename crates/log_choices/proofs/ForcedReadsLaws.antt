@@ -1,17 +1,15 @@
 -- What a pass has found is forced.
-use Rattle.std.proofs.Common.{◌≡◌, ℕ, ◌<◌, ap, sym, subst, ◌∙◌, refl, eqb-true}
-use Rattle.std.specs.Prelude.{◌≢◌, ◌==◌, All, Contains, Bool, true, false, List, Option, Some, None, option_map}
+use Rattle.std.proofs.Common.{◌≡◌, ℕ, sym, subst, ◌∙◌, refl, eqb-true}
+use Rattle.std.specs.Prelude.{◌==◌, All, Contains, false, List, Option, Some, None, option_map}
 use Rattle.std.proofs.lemmas.List.Elements.{All-contains}
 use Rattle.std.proofs.lemmas.Map.Views.{Contains-from_lookup}
 use Rattle.std.proofs.lemmas.Option.{same_Some}
 use Rattle.model_objects.specs.Table.{value_at}
-use Rattle.log_events.specs.declared.event.ClientCall.TheVariants.{ReadOf}
 use Rattle.log_events.specs.declared.event.Event.{Event}
-use Rattle.log_events.specs.declared.event.Event.TheVariants.{Begins}
 use Rattle.log_choices.specs.Choices.{IsCandidate, IsChoice, IsNullRead}
-use Rattle.log_choices.specs.Forced.{IsForcedChoice, IsOut}
+use Rattle.log_choices.specs.Forced.{IsForcedChoice}
 use Rattle.log_choices.specs.ForcedSteps.{IsLeftWith}
-use Rattle.log_choices.specs.Seen.{choice_in, seen_by}
+use Rattle.log_choices.specs.ChoiceTables.{choice_in, seen_of}
 use Rattle.log_choices.specs.declared.seen.Seen.{Seen}
 
 module _ (es : List Event) where
@@ -26,18 +24,18 @@ module _ (es : List Event) where
       let same = same_Some _ _ (sym null.ended.was_open.begun ∙ second.ended.was_open.begun) in cc
 
   -- an entry of the table that gives a choice
-  entry-of : (table : List (ℕ × Seen)) (r : ℕ) (c : Option ℕ) → All (λ entry. IsLeftWith es entry.0 (seen_by entry.1)) table → choice_in table r ≡ Some c
+  pub entry-of : (table : List (ℕ × Seen)) (r : ℕ) (c : Option ℕ) → All (λ entry. IsLeftWith es entry.0 (seen_of entry.1)) table → choice_in table r ≡ Some c
       → IsLeftWith es r c
   entry-of table r c all is = by_value (value_at table r) refl is
     where
-      by_value : (o : Option Seen) → value_at table r ≡ o → option_map seen_by o ≡ Some c → IsLeftWith es r c
+      by_value : (o : Option Seen) → value_at table r ≡ o → option_map seen_of o ≡ Some c → IsLeftWith es r c
       by_value None found same = absurd cc
       by_value (Some s) found same =
           let listed : Contains table (r, s) =
           Contains-from_lookup {eq = λ (a b : ℕ). b == a} (λ x y h. sym (eqb-true y x h)) r s table found in
-          subst (IsLeftWith es r) (same_Some _ _ same) (All-contains (λ (entry : ℕ × Seen). IsLeftWith es entry.0 (seen_by entry.1)) table (r, s) all listed)
+          subst (IsLeftWith es r) (same_Some _ _ same) (All-contains (λ (entry : ℕ × Seen). IsLeftWith es entry.0 (seen_of entry.1)) table (r, s) all listed)
 
-  pub table-forced : (table : List (ℕ × Seen)) → All (λ entry. IsLeftWith es entry.0 (seen_by entry.1)) table
+  pub table-forced : (table : List (ℕ × Seen)) → All (λ entry. IsLeftWith es entry.0 (seen_of entry.1)) table
       → IsForcedChoice false es (choice_in table) × IsChoice false es (choice_in table)
   table-forced table all = (forced, choice)
     where

@@ -23,3 +23,12 @@ pub mod ChosenHistoriesKept
 pub mod ChosenCallsLaws
 pub mod ChosenOriginsLaws
 pub mod LeftOutKeys
+pub mod ForcedCalls
+pub mod ForcedPasts
+pub mod ForcedKept
+pub mod ForcedDeletes
+pub mod ForcedStarts
+pub mod ForcedLooks
+pub mod ForcedFound
+pub mod ForcedReadsLaws
+pub mod ForcedPasses

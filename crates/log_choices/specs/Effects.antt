@@ -16,7 +16,8 @@ module _ (es : List Event) (f : Choice) where
 
   abbrev pub operations_before : ℕ → ℕ → ℕ
   operations_before client p =
-      length (filter_map (λ (a : Call). operation_by es f a.place a.call a.ending) (filter (λ (a : Call). a.client == client) (calls_before p)))
+      length
+      (filter_map (λ (a : Call). operation_by es f a.place a.call a.ending) (filter (λ (a : Call). a.client == client) (calls_before p)))
 
   abbrev pub forks_before : ℕ → ℕ
   forks_before p = length (filter_map (λ (a : Call). fork_by es f a.place a.call a.ending) (calls_before p))

@@ -1,7 +1,9 @@
 -- What the pass over a log that finds what is forced keeps.
-use Rattle.std.specs.Prelude.{◌≡◌, ◌≢◌, ⊤, ◌<◌, ◌≤◌, ℕ, suc, Bool, true, false, List, All, Option, Some, None, filter_map, slice_get, slice_index, IsSortedByKey, Contains}
+use Rattle.std.specs.Prelude.{◌≡◌, ◌≢◌, ⊤, ◌<◌, ◌≤◌, ℕ, suc, Bool, true, false, List, All, Option, Some, None, option_map}
+use Rattle.std.specs.Prelude.{slice_get, slice_index, IsSortedByKey, Contains}
 use Rattle.std.specs.Ordering.{nat_cmp}
 use Rattle.std.specs.declared.vec.Vec.{Vec}
+use Rattle.model_objects.specs.Table.{IsRising}
 use Rattle.log_events.specs.declared.event.ClientCall.{ClientCall}
 use Rattle.log_events.specs.declared.event.ClientCall.TheVariants.{WriteTo, ReadOf, DeleteOf}
 use Rattle.log_events.specs.declared.event.Ending.{Ending}
@@ -10,20 +12,18 @@ use Rattle.log_events.specs.declared.event.Event.{Event}
 use Rattle.log_events.specs.declared.event.Event.TheVariants.{Begins}
 use Rattle.log_events.specs.declared.limits.TheConstants.{MAX_EVENTS, MAX_NAME}
 use Rattle.log_events.specs.Events.{Call, IsAt, IsEnded}
-use Rattle.log_events.specs.Histories.{start_entry}
+use Rattle.log_events.specs.Steps.CallKinds.{deleted_key}
 use Rattle.log_choices.specs.Choices.{BeginsKeptDelete, IsCandidate, IsNullRead}
-use Rattle.log_choices.specs.Forced.{Comes, IsOut, LacksCandidates}
+use Rattle.log_choices.specs.ChoiceTables.{seen_of}
+use Rattle.log_choices.specs.Forced.{Comes, IsOut}
 use Rattle.log_choices.specs.declared.forced_kept.Kept.{Kept}
 use Rattle.log_choices.specs.declared.forced_kept.Delete.{Delete}
 use Rattle.log_choices.specs.declared.forced_looks.NullRead.{NullRead}
 use Rattle.log_choices.specs.declared.forced_looks.Left.{Left}
 use Rattle.log_choices.specs.declared.forced_looks.Left.TheVariants.{NoneLeft, OneLeft, MoreLeft}
-use Rattle.log_choices.specs.declared.forced_looks.Look.{Look}
-use Rattle.log_choices.specs.declared.forced_looks.Look.TheVariants.{Open, StartAlone, DeleteAlone, Impossible}
 use Rattle.log_choices.specs.declared.forced_plan.Plan.{Plan}
-use Rattle.log_choices.specs.declared.forced_pass.Found.{Found}
 use Rattle.log_choices.specs.declared.seen.Seen.{Seen}
-use Rattle.log_choices.specs.Seen.{seen_by}
+use Rattle.log_choices.specs.declared.seen.Seen.TheVariants.{Start, Delete as SeenDelete}
 
 -- the key of a write or a delete that did not fail, and the value that it writes
 abbrev pub written_by : ClientCall → Option Ending → Option (ℕ × Option ℕ)
@@ -33,13 +33,8 @@ written_by (WriteTo x v) ending = Some (x, Some v)
 written_by (DeleteOf x) ending = Some (x, None)
 
 -- the key and the place of a delete that did not fail
-abbrev pub spot_in : ℕ → Option (ℕ × Option ℕ) → Option (ℕ × ℕ)
-spot_in place None = None
-spot_in place (Some (x, Some v)) = None
-spot_in place (Some (x, None)) = Some (x, place)
-
 abbrev pub deleted_spot : Call → Option (ℕ × ℕ)
-deleted_spot a = spot_in a.place (written_by a.call a.ending)
+deleted_spot a = option_map (λ x. (x, a.place)) (deleted_key a.call a.ending)
 
 abbrev pub spot_of : Delete → ℕ × ℕ
 spot_of d = (d.key, d.place)
@@ -49,13 +44,18 @@ abbrev pub writing : ℕ → Option ℕ → ClientCall
 writing x (Some v) = WriteTo x v
 writing x None = DeleteOf x
 
--- what a null read can have seen, by which deletes are left, and whether the start is
-abbrev pub look_by : Left → Bool → Look
-look_by NoneLeft true = StartAlone
-look_by NoneLeft false = Impossible
-look_by (OneLeft d) false = DeleteAlone d
-look_by (OneLeft d) true = Open
-look_by MoreLeft b = Open
+-- what a null read must have seen, by which deletes are left, whether the start is, and the first delete of the key; or none, where more
+-- than one is left
+abbrev pub look_by : Left → Bool → Delete → Option Seen
+look_by NoneLeft true first = Some Start
+look_by NoneLeft false first = Some (SeenDelete first.place)
+look_by (OneLeft d) false first = Some (SeenDelete d.place)
+look_by (OneLeft d) true first = None
+look_by MoreLeft b first = None
+
+-- some of these deletes, of one key
+abbrev pub AreOfKey : List Delete → ℕ → List Delete → Type 0
+AreOfKey deletes x part = (d : Delete) → Contains part d → Contains deletes d × (d.key ≡ x)
 
 -- a call ended, and neither failed nor was lost
 abbrev pub IsAnswered : Option Ending → Type 0
@@ -92,7 +92,6 @@ module _ (es : List Event) where
   pub record IsPlan (plan : Plan) : Type 0 where
     pub writes : All IsKeptWrite plan.writes.items
     pub deletes : AreDeletes plan.deletes.items
-    pub starts : plan.starts ≡ filter_map start_entry es
 
   -- a read got nothing
   pub record GetsNothing (read : NullRead) : Type 0 where
@@ -110,7 +109,7 @@ module _ (es : List Event) where
   IsLeft r deletes (OneLeft e) = Contains deletes e × All (λ d. d.place ≢ e.place → IsOut false es r (Some d.place)) deletes
   IsLeft r deletes MoreLeft = ⊤
 
-  -- the null read that begins at the place r is left with one candidate
+  -- this is a candidate of the null read that begins at the place r, and each other candidate is out
   pub record IsLeftWith (r : ℕ) (c : Option ℕ) : Type 0 where
     pub client : ℕ
     pub key : ℕ
@@ -119,19 +118,17 @@ module _ (es : List Event) where
     pub candidate : IsCandidate false es key ends c
     pub others : (d : Option ℕ) → IsCandidate false es key ends d → d ≢ c → IsOut false es r d
 
-  -- what is found of the read that begins at the place r
-  abbrev pub IsLook : ℕ → Look → Type 0
-  IsLook r Open = ⊤
-  IsLook r StartAlone = IsLeftWith r None
-  IsLook r (DeleteAlone d) = IsLeftWith r (Some d.place)
-  IsLook r Impossible = LacksCandidates false es r
+  -- what is found of the read that begins at the place r, if anything is
+  abbrev pub IsLook : ℕ → Option Seen → Type 0
+  IsLook r None = ⊤
+  IsLook r (Some seen) = IsLeftWith r (seen_of seen)
 
-  -- no null read is left with no candidate, or the one that begins at a place
-  abbrev pub IsImpossible : Option ℕ → Type 0
-  IsImpossible None = ⊤
-  IsImpossible (Some r) = LacksCandidates false es r
+  -- what is found of some null reads, by the places of their begins
+  pub record AreForcedReads (table : List (ℕ × Seen)) : Type 0 where
+    pub seen : All (λ entry. IsLeftWith entry.0 (seen_of entry.1)) table
+    pub rising : IsRising table
 
-  -- what a pass has found
-  pub record IsFound (found : Found) : Type 0 where
-    pub seen : All (λ entry. IsLeftWith entry.0 (seen_by entry.1)) found.seen
-    pub impossible : IsImpossible found.impossible
+  -- of null reads that begin before the place b
+  pub record AreFoundBelow (b : ℕ) (table : List (ℕ × Seen)) : Type 0 where
+    pub forced : AreForcedReads table
+    pub below : All (λ entry. entry.0 < b) table

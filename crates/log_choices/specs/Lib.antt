@@ -7,4 +7,5 @@ pub mod Effects
 pub mod ChoiceTables
 pub mod ChosenOrigins
 pub mod ChosenLeftOut
+pub mod ForcedSteps
 pub mod Steps

@@ -12,12 +12,14 @@ ghost use Rattle.log_choices.specs.ChosenHistories.{fork_by, is_seen as seen_by,
 ghost use Rattle.log_choices.specs.Steps.ChosenCalls.{IsLostWrite, client_rows};
 
 use crate::client_calls::client_calls;
-use crate::entries::{fork_of, read_of, write_of};
+use crate::entries::fork_of;
 use crate::lost_calls::{returned_writes, seen_deletes};
 use crate::null_reads::NullReads;
 use crate::seen::Seen;
 use judge_memory::LongEntry;
-use log_events::{ClientCall, Ending, EventLog, LoggedCall, MAX_EVENTS, MAX_NAME};
+use log_events::{
+    ClientCall, Ending, EventLog, LoggedCall, MAX_EVENTS, MAX_NAME, read_of, write_of,
+};
 use model_objects::{RegisterRet, Table};
 use std::alloc::{AllocError, Global};
 use std::marker::Model;

@@ -25,8 +25,8 @@ use std::alloc::{AllocError, Global};
 /// The choice has the places of the begins of null reads, in order, each with what the read saw. A null read that it does not have is left
 /// out, and entries at other places count for nothing. It need not be a choice of candidates.
 ///
-/// Fails for want of memory, and where this history, or that which leaves all null reads out, has more than `judge_memory::MAX_NUMBERS`
-/// operations or sessions. O(n log n) for n calls and clients. Besides the histories it takes some 60 bytes a call.
+/// Fails for want of memory, and where the history has more than `judge_memory::MAX_NUMBERS` operations or sessions. O(n log n) for n calls
+/// and clients. Besides the history it takes some 60 bytes a call, or what [`EventLog::history`] takes where the choice has no place.
 pub fn history_by(
     alloc: Global,
     log: &EventLog,
@@ -35,6 +35,9 @@ pub fn history_by(
     requires rising { IsRising choice.now }
     ensures { IfOk result (λ h. h ≡ chosen_history log.now (choice_in choice.now)) }
 {
+    if choice.is_empty() {
+        return log.history(alloc);
+    }
     let start = start_of(alloc, log)?;
     let calls = ChosenCalls::of(alloc, log, choice)?;
     let sessions = sessions_of(alloc, &calls)?;
@@ -71,18 +74,6 @@ fn start_of(alloc: Global, log: &EventLog) -> Result<Table<u64>, AllocError>
     log.events_are_log();
     let _few = log.events();
     let _small = log.calls();
-    let plain = log.history(alloc)?;
-    plain.value_is_history();
-    copied(alloc, plain.start())
-}
-
-/// A copy of some starts.
-fn copied(alloc: Global, starts: &Table<u64>) -> Result<Table<u64>, AllocError>
-    ensures { IfOk result (λ copy. copy ≡ starts.now) }
-{
-    let mut copy = Table::new(alloc);
-    for (key, value) in starts.entries() {
-        copy.push(*key, *value)?;
-    }
-    Ok(copy)
+    log.history_is_long();
+    log.copied_starts(alloc)
 }

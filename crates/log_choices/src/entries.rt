@@ -1,35 +1,12 @@
-//! Operations of a history.
+//! The fork of a lost call.
 
 ghost use Rattle.std.specs.Prelude.{◌≡◌, ◌∷◌, ◌≤◌, ◌<◌, [], None, Some};
-ghost use Rattle.model_objects.specs.declared.register.RegisterRet.{RegisterRet as Ret};
 ghost use Rattle.model_objects.specs.declared.register.RegisterRet.TheVariants.{Value as Returned};
 ghost use Rattle.log_events.specs.Histories.{key as variable_of, mark, read, write};
 
 use judge_memory::LongEntry;
-use log_events::{MAX_EVENTS, MAX_NAME};
-use model_objects::{KeyedCall, RegisterCall, RegisterRet};
-
-/// A write of a value to a variable, with its return where that is known.
-pub(crate) fn write_of(variable: u32, value: u64, known: Option<RegisterRet>) -> LongEntry
-    ensures { result ≡ write variable value known }
-{
-    let call = KeyedCall {
-        key: variable,
-        call: RegisterCall::Write(value),
-    };
-    (call, known)
-}
-
-/// A read of a variable, with its return where that is known.
-pub(crate) fn read_of(variable: u32, known: Option<RegisterRet>) -> LongEntry
-    ensures { result ≡ read variable known }
-{
-    let call = KeyedCall {
-        key: variable,
-        call: RegisterCall::Read,
-    };
-    (call, known)
-}
+use log_events::{MAX_EVENTS, MAX_NAME, read_of, write_of};
+use model_objects::RegisterRet;
 
 /// The fork of a lost call that began at a place: the read of its mark, and the write of its value to the variable of its key.
 pub(crate) fn fork_of(place: u32, key: u32, value: u64) -> [LongEntry; 2]

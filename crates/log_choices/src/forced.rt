@@ -1,13 +1,15 @@
 //! What is forced of the null reads of a log.
 
 ghost use Rattle.std.specs.Prelude.{IfOk, false};
-ghost use Rattle.log_choices.specs.ForcedSteps.{IsFound};
-ghost use Rattle.log_choices.specs.ForcedReads.{AreForced};
+ghost use Rattle.model_objects.specs.Table.{IsRising};
+ghost use Rattle.log_choices.specs.Choices.{IsChoice};
+ghost use Rattle.log_choices.specs.ChoiceTables.{choice_in};
+ghost use Rattle.log_choices.specs.Forced.{IsForcedChoice};
 
 use crate::Seen;
 use crate::forced_pass::{Found, pass};
 use crate::forced_plan::Plan;
-use log_events::{ClientCall, Ending, EventLog};
+use log_events::{ClientCall, EventLog};
 use model_objects::Table;
 use std::alloc::{AllocError, Global};
 
@@ -17,50 +19,35 @@ const MAX_PASSES: u32 = 8;
 /// The most counts that are kept of what comes before writes, and before the clients' next calls.
 const MAX_COUNTS: u64 = 268_435_456;
 
-/// What is forced of the null reads of a log.
-#[derive(Drop)]
-pub enum ForcedReads {
-    /// What null reads saw that are left with one candidate, by the places of their begins.
-    Forced(Table<Seen>),
-    /// The null read that begins at this place is left with no candidate.
-    Impossible(u32),
-}
-
-/// What is forced of the null reads of a log whose calls stand in no known order of time: reads with one candidate left, or a read with none.
+/// What null reads of a log saw that are left with one candidate, by the places of their begins. The calls need not stand in the order of
+/// time.
 ///
-/// A candidate is taken out where the read comes before it, or another write or delete of the key that comes before the read comes after it.
+/// A candidate is taken out where the read comes before it, or another write or delete of the key that comes before the read comes after
+/// it. A read that is left with no candidate has the first delete of its key: then the log meets no criterion, and by this choice its
+/// history meets none.
+///
 /// Not all that is forced is found: the calls are gone over at most eight times, a lost write or delete counts as one that replaces others
 /// only for its readers, and nothing is found where the writes and deletes, or the clients, times the clients are more than 2^28.
 ///
-/// Fails for want of memory, and where the history of the log has more than `judge_memory::MAX_NUMBERS` operations or sessions. O(n k) for n
-/// calls and k clients, and for each null read O(k log n + k d) for d deletes of its key. It takes 4 k bytes for each write, delete and
-/// client. A log in which no read got nothing takes O(n) and no memory.
-pub fn forced_reads(alloc: Global, log: &EventLog) -> Result<ForcedReads, AllocError>
-    ensures { IfOk result (AreForced false log.now) }
+/// Fails for want of memory alone. O(n k) for n calls and k clients, and for each null read O(k log n + d (k + log n)) for d deletes of
+/// its key. It takes 4 k bytes for each write, delete and client. A log in which no read got nothing takes O(n) and no memory.
+pub fn forced_reads(alloc: Global, log: &EventLog) -> Result<Table<Seen>, AllocError>
+    ensures rising { IfOk result (λ table. IsRising table) }
+    ensures forced { IfOk result (λ table. IsForcedChoice false log.now (choice_in table)) }
+    ensures candidates { IfOk result (λ table. IsChoice false log.now (choice_in table)) }
 {
+    let mut found = Found::nothing(alloc);
     if !is_within_limits(log) {
-        return Ok(ForcedReads::Forced(Table::new(alloc)));
+        return Ok(found.seen);
     }
     let mut plan = Plan::of(alloc, log)?;
-    let mut found = pass(alloc, log, &mut plan)?;
-    for _ in 1..MAX_PASSES {
-        if !found.has_grown || found.impossible.is_some() {
+    for _ in 0..MAX_PASSES {
+        if !found.has_grown {
             break;
         }
-        found = pass(alloc, log, &mut plan)?;
+        found = pass(alloc, log, &mut plan, &found.seen)?;
     }
-    Ok(forced_of(log, found))
-}
-
-/// What a pass has found.
-fn forced_of(log: &EventLog, found: Found) -> ForcedReads
-    requires { IsFound log.now found }
-    ensures { AreForced false log.now result }
-{
-    match found.impossible {
-        Some(place) => ForcedReads::Impossible(place),
-        None => ForcedReads::Forced(found.seen),
-    }
+    Ok(found.seen)
 }
 
 /// Whether some read got nothing, and the counts of what comes before the writes and the clients' calls are not too many.
@@ -71,16 +58,11 @@ fn is_within_limits(log: &EventLog) -> bool {
         .iter()
         .filter(|call| is_write(call.call()))
         .count();
-    log.calls().iter().any(|call| is_null(call.ending()))
+    log.calls().iter().any(|call| call.missed_key().is_some())
         && (writes as u64).max(clients).saturating_mul(clients) <= MAX_COUNTS
 }
 
 /// Whether a call writes or deletes.
 fn is_write(call: ClientCall) -> bool {
     !matches!(call, ClientCall::ReadOf(_))
-}
-
-/// Whether a read got nothing.
-fn is_null(ending: Option<Ending>) -> bool {
-    matches!(ending, Some(Ending::GotNothing))
 }

@@ -1,6 +1,6 @@
 //! The writes and deletes of a log that did not fail.
 
-ghost use Rattle.std.specs.Prelude.{◌≡◌, ◌↔◌, All, Contains, IfOk, IfSome, IsTrue, Some, filter_map, map, option_map};
+ghost use Rattle.std.specs.Prelude.{◌≡◌, ◌↔◌, All, Contains, IfOk, IfSome, IsTrue, Some, filter_map, map};
 ghost use Rattle.log_events.specs.declared.event.Ending.TheVariants.{Lost as IsLost};
 ghost use Rattle.log_events.specs.Events.{run_calls};
 ghost use Rattle.log_choices.specs.ForcedSteps.{AreDeletes, IsKeptWrite, deleted_spot, spot_of, written_by};
@@ -29,8 +29,6 @@ pub(crate) struct Delete {
     pub(crate) key: u32,
     /// The place of its begin.
     pub(crate) place: u32,
-    /// Its number among the writes and deletes that did not fail.
-    pub(crate) number: u32,
 }
 
 /// The writes and deletes that did not fail, in the order of their begins, with nothing known of what comes before them.
@@ -95,31 +93,15 @@ fn listed_deletes(alloc: Global, calls: &[LoggedCall]) -> Result<Vec<Delete>, Al
     ensures { IfOk result (λ deletes. map spot_of deletes.items ≡ filter_map deleted_spot calls.now) }
 {
     let mut deletes = Vec::new(alloc);
-    let mut number = 0u32;
     for call in calls {
-        if let Some(key) = deleted(call) {
+        if let Some(key) = call.deleted_key() {
             deletes.push(Delete {
                 key,
                 place: call.place(),
-                number,
             })?;
-        }
-        if written(call).is_some() {
-            number = number.saturating_add(1);
         }
     }
     Ok(deletes)
-}
-
-/// The key of a delete that did not fail.
-fn deleted(call: &LoggedCall) -> Option<u32>
-    ensures { option_map (λ x. (x, call.now.place)) result ≡ deleted_spot call.now }
-{
-    match (call.call(), call.ending()) {
-        (_, Some(Ending::Failed)) => None,
-        (ClientCall::DeleteOf(key), _) => Some(key),
-        _ => None,
-    }
 }
 
 /// Whether a call was lost.

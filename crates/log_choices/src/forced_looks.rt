@@ -1,18 +1,18 @@
 //! What a null read can have seen, by what is known to come before it.
 
 ghost use Rattle.std.specs.Prelude.{◌≡◌, ◌≢◌, ◌<◌, ℕ, suc, List, All, Contains, IfOk, IsTrue, Some, None, false, slice_get};
-ghost use Rattle.log_events.specs.declared.event.Event.{Event as Happened};
 ghost use Rattle.log_events.specs.declared.event.Event.TheVariants.{Starts};
 ghost use Rattle.log_events.specs.Events.{IsAt};
 ghost use Rattle.log_choices.specs.Choices.{BeginsKeptDelete};
 ghost use Rattle.log_choices.specs.Forced.{Comes, IsOut};
-ghost use Rattle.log_choices.specs.ForcedSteps.{GetsNothing, IsKeptWrite, IsLeft, IsLook, IsPast, IsPlan, IsReplacing, look_by};
+ghost use Rattle.log_choices.specs.ForcedSteps.{AreOfKey, GetsNothing, IsKeptWrite, IsLeft, IsLook, IsPast, IsPlan, IsReplacing, look_by};
 ghost use Rattle.log_choices.specs.declared.forced_kept.Delete.{Delete as Deleted};
 ghost use Rattle.log_choices.specs.declared.forced_kept.Kept.{Kept as Written};
 
+use crate::Seen;
 use crate::forced_kept::{Delete, Kept};
 use crate::forced_pasts::precedes;
-use crate::forced_plan::Plan;
+use crate::forced_plan::{Plan, is_started};
 use log_events::EventLog;
 use std::alloc::{AllocError, Global};
 
@@ -25,19 +25,6 @@ pub(crate) struct NullRead {
     pub(crate) key: u32,
 }
 
-/// What a read that got nothing can have seen.
-#[derive(Clone, Copy)]
-pub(crate) enum Look {
-    /// No delete names the key, or more than one candidate is left.
-    Open,
-    /// The start alone.
-    StartAlone,
-    /// One delete alone.
-    DeleteAlone(Delete),
-    /// Nothing: no candidate is left.
-    Impossible,
-}
-
 /// Which deletes are left of some.
 #[derive(Clone, Copy)]
 pub(crate) enum Left {
@@ -47,16 +34,17 @@ pub(crate) enum Left {
 }
 
 impl Plan {
-    /// What a read that got nothing can have seen, by what is known to come before it.
+    /// What a read that got nothing must have seen, by what is known to come before it: the start or a delete that alone is left, or some
+    /// delete where nothing is left. `None` where more than one candidate is left, and where no delete names the key.
     ///
-    /// Fails for want of memory alone. O(k log n + k d) for n writes, k clients and d deletes of the key.
+    /// Fails for want of memory alone. O(k log n + d (k + log n)) for n writes, k clients and d deletes of the key.
     pub(crate) fn look(
         &self,
         alloc: Global,
         log: &EventLog,
         read: NullRead,
         past: &[u32],
-    ) -> Result<Look, AllocError>
+    ) -> Result<Option<Seen>, AllocError>
         requires plan { IsPlan log.now self.now }
         requires read { GetsNothing log.now read }
         requires past { IsPast log.now past.now read.place }
@@ -64,12 +52,12 @@ impl Plan {
     {
         let deletes = self.deletes_of(read.key);
         if deletes.is_empty() {
-            return Ok(Look::Open);
+            return Ok(None);
         }
         let replacing = self.replacing(alloc, log, read, past)?;
         let left = self.left_of(log, deletes, read, &replacing);
         let is_start_left = self.is_start_left(log, read, &replacing);
-        Ok(look_of(left, is_start_left))
+        Ok(look_of(left, is_start_left, deletes[0]))
     }
 
     /// Whether a read can have seen the start: the key has none, and no write or delete of the key comes before the read. O(log n) for n
@@ -85,7 +73,7 @@ impl Plan {
         if !replacing.is_empty() {
             return false;
         }
-        !self.is_started(log, read.key)
+        !is_started(log, read.key)
     }
 
     /// For each client its last write or delete of the key that is known to come before a read, by its number.
@@ -129,7 +117,7 @@ impl Plan {
     fn left_of(&self, log: &EventLog, deletes: &[Delete], read: NullRead, replacing: &[u32]) -> Left
         requires plan { IsPlan log.now self.now }
         requires read { GetsNothing log.now read }
-        requires deletes { (d : Deleted) → Contains deletes.now d → Contains self.now.deletes.items d × (d.key ≡ read.key) }
+        requires deletes { AreOfKey self.now.deletes.items read.key deletes.now }
         requires replacing { All (IsReplacing log.now self.now.writes.items read.key read.place) replacing.now }
         ensures { IsLeft log.now read.place deletes.now result }
     {
@@ -154,7 +142,7 @@ impl Plan {
         requires replacing { All (IsReplacing log.now self.now.writes.items read.key read.place) replacing.now }
         ensures { IsTrue result → IsOut false log.now read.place (Some delete.place) }
     {
-        match self.write_at(delete.number, delete.place) {
+        match self.write_at(delete.place) {
             Some(write) => follows(log, write, read) || self.is_replaced(log, write, replacing),
             None => false,
         }
@@ -164,8 +152,9 @@ impl Plan {
     fn is_replaced(&self, log: &EventLog, write: &Kept, by: &[u32]) -> bool
         requires plan { IsPlan log.now self.now }
         requires write { IsKeptWrite log.now write.now }
-        ensures { IsTrue result → (number : ℕ) × (w : Written) × Contains by.now number × (slice_get self.now.writes.items number ≡ Some w)
-            × (w.place ≢ write.now.place) × Comes false log.now write.now.place w.place }
+        ensures { IsTrue result → (number : ℕ) × (w : Written) × Contains by.now number
+            × (slice_get self.now.writes.items number ≡ Some w) × (w.place ≢ write.now.place)
+            × Comes false log.now write.now.place w.place }
     {
         for number in by {
             if let Some(other) = self.writes.get(*number as usize)
@@ -179,15 +168,15 @@ impl Plan {
     }
 }
 
-/// What a read that got nothing can have seen, by which deletes are left, and whether the start is.
-fn look_of(left: Left, is_start_left: bool) -> Look
-    ensures { result ≡ look_by left is_start_left }
+/// What a read that got nothing must have seen, by which deletes are left, whether the start is, and the first delete of the key.
+fn look_of(left: Left, is_start_left: bool, first: Delete) -> Option<Seen>
+    ensures { result ≡ look_by left is_start_left first }
 {
     match left {
-        Left::NoneLeft if is_start_left => Look::StartAlone,
-        Left::NoneLeft => Look::Impossible,
-        Left::OneLeft(delete) if !is_start_left => Look::DeleteAlone(delete),
-        _ => Look::Open,
+        Left::NoneLeft if is_start_left => Some(Seen::Start),
+        Left::NoneLeft => Some(Seen::Delete(first.place)),
+        Left::OneLeft(delete) if !is_start_left => Some(Seen::Delete(delete.place)),
+        _ => None,
     }
 }
 

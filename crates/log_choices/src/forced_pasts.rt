@@ -41,7 +41,8 @@ pub(crate) fn follow(past: &mut [u32], write: &Kept)
 
 /// Whether a write or delete is known to come before a call, by what comes before the call.
 pub(crate) fn precedes(write: &Kept, past: &[u32]) -> bool
-    ensures { (es : List Happened) (q : ℕ) → IsKeptWrite es write.now → IsPast es past.now q → IsTrue result → Comes false es write.now.place q }
+    ensures { (es : List Happened) (q : ℕ) → IsKeptWrite es write.now → IsPast es past.now q → IsTrue result
+        → Comes false es write.now.place q }
 {
     let client = write.client as usize;
     if client >= past.len() || past[client] <= write.place {

@@ -1,18 +1,15 @@
-//! What the pass that finds what is forced looks up: the writes and deletes of a log by key and client, by value, and the starts of keys.
+//! What the pass that finds what is forced looks up: the writes and deletes of a log, by key and client, and by value.
 
-ghost use Rattle.std.specs.Prelude.{◌≡◌, ◌<◌, ◌≤◌, ◌↔◌, ℕ, All, Contains, IfOk, IfSome, IsTrue, Some, IsSortedByKey, filter_map, option_map};
-ghost use Rattle.std.specs.Option.{is_some};
+ghost use Rattle.std.specs.Prelude.{◌≡◌, ◌≤◌, ◌↔◌, ℕ, Contains, IfOk, IfSome, IsSortedByKey, IsTrue, Some};
 ghost use Rattle.std.specs.Ordering.{nat_cmp};
 ghost use Rattle.log_events.specs.Events.{IsAt};
-ghost use Rattle.log_events.specs.Histories.{start_entry};
 ghost use Rattle.log_events.specs.declared.event.Event.TheVariants.{Starts};
 ghost use Rattle.log_events.specs.declared.limits.TheConstants.{MAX_NAME};
-ghost use Rattle.log_choices.specs.ForcedSteps.{AreDeletes, IsKeptWrite, IsPlan};
+ghost use Rattle.log_choices.specs.ForcedSteps.{IsPlan};
 ghost use Rattle.log_choices.specs.declared.forced_kept.Delete.{Delete as Deleted};
 
 use crate::forced_kept::{Delete, Kept, kept_deletes, kept_writes};
 use log_events::EventLog;
-use model_objects::Table;
 use std::alloc::{AllocError, Global};
 
 /// A write or a delete that did not fail, to be found by its key, its client and the place of its begin.
@@ -45,18 +42,15 @@ pub(crate) struct Plan {
     values: Vec<Valued>,
     /// By key.
     pub(crate) deletes: Vec<Delete>,
-    /// The starts of the history of the log.
-    starts: Table<u64>,
 }
 
 impl Plan {
     /// The plan of a log. O(n log n) for n calls.
     ///
-    /// Fails for want of memory, and where the history of the log has too many operations.
+    /// Fails for want of memory alone.
     pub(crate) fn of(alloc: Global, log: &EventLog) -> Result<Plan, AllocError>
         ensures { IfOk result (IsPlan log.now) }
     {
-        let starts = starts_of(alloc, log)?;
         let writes = kept_writes(alloc, log)?;
         let spots = spots_of(alloc, &writes)?;
         let values = values_of(alloc, &writes)?;
@@ -66,7 +60,6 @@ impl Plan {
             spots,
             values,
             deletes,
-            starts,
         })
     }
 
@@ -102,11 +95,16 @@ impl Plan {
         }
     }
 
-    /// The write or delete of a number, if it began at this place. O(1).
-    pub(crate) fn write_at(&self, number: u32, place: u32) -> Option<&Kept>
+    /// The number of the write or delete that began at a place, if there is one; else any number. O(log n) for n writes.
+    pub(crate) fn number_at(&self, place: u32) -> usize {
+        self.writes.partition_point(|write| write.place < place)
+    }
+
+    /// The write or delete that began at a place. O(log n) for n writes.
+    pub(crate) fn write_at(&self, place: u32) -> Option<&Kept>
         ensures { IfSome result (λ w. Contains self.now.writes.items w.now × (w.now.place ≡ place)) }
     {
-        let write = self.writes.get(number as usize)?;
+        let write = self.writes.get(self.number_at(place))?;
         if write.place == place {
             Some(write)
         } else {
@@ -114,21 +112,7 @@ impl Plan {
         }
     }
 
-    /// Whether a key has a start. O(log n) for n starts.
-    pub(crate) fn is_started(&self, log: &EventLog, key: u32) -> bool
-        requires plan { IsPlan log.now self.now }
-        requires small { key ≤ MAX_NAME }
-        ensures { IsTrue result ↔ (k : ℕ) × (v : ℕ) × IsAt log.now k (Starts key v) }
-    {
-        // It opens the log, which says that its starts rise.
-        log.events_are_log();
-        match self.starts.get(2 * key) {
-            Some(_) => true,
-            None => false,
-        }
-    }
-
-    /// The deletes of a key that did not fail. O(log n) for n deletes.
+    /// The deletes of a key that did not fail, in the order of their begins. O(log n) for n deletes.
     pub(crate) fn deletes_of(&self, key: u32) -> &[Delete]
         requires { IsSortedByKey (λ d. d.key) nat_cmp self.now.deletes.items }
         ensures { (d : Deleted) → Contains result.now d ↔ (Contains self.now.deletes.items d × (d.key ≡ key)) }
@@ -143,18 +127,17 @@ impl Plan {
     }
 }
 
-/// The starts of the history of a log.
-///
-/// Fails for want of memory, and where the history has too many operations.
-fn starts_of(alloc: Global, log: &EventLog) -> Result<Table<u64>, AllocError>
-    ensures { IfOk result (λ starts. starts ≡ filter_map start_entry log.now) }
+/// Whether a key has a start. O(log n) for n starts.
+pub(crate) fn is_started(log: &EventLog, key: u32) -> bool
+    requires { key ≤ MAX_NAME }
+    ensures { IsTrue result ↔ (k : ℕ) × (v : ℕ) × IsAt log.now k (Starts key v) }
 {
-    let history = log.history(alloc)?;
-    let mut starts = Table::new(alloc);
-    for (variable, value) in history.start().entries() {
-        starts.push(*variable, *value)?;
+    // It opens the log, which says that its starts rise.
+    log.events_are_log();
+    match log.starts().get(2 * key) {
+        Some(_) => true,
+        None => false,
     }
-    Ok(starts)
 }
 
 /// The spots of writes, by key, client and place.

@@ -1,141 +1,184 @@
 //! What is forced of small logs.
 
-use crate::{ForcedReads, Seen, forced_reads};
-use log_events::{ClientCall, Ending, Event, EventLog};
+use crate::{Seen, forced_reads};
+use log_events::ClientCall::{DeleteOf, ReadOf, WriteTo};
+use log_events::Ending::{Answered, Failed, Got, GotNothing};
+use log_events::Event::{Begins, Ends, Starts};
+use log_events::{ClientCall, Ending, EventLog};
 use std::alloc::Global;
 
-const W: u32 = 0;
+/// What a client calls, how it ends, and that client.
+type Row = (u32, ClientCall, Ending);
 
-const D: u32 = 1;
+fn write(client: u32, key: u32, value: u32) -> Row {
+    (client, WriteTo(key, value), Answered)
+}
 
-const R: u32 = 2;
+fn delete(client: u32, key: u32) -> Row {
+    (client, DeleteOf(key), Answered)
+}
 
-/// Calls that end before the next begins: the client, what it calls, the key, and the value that it writes or gets, or 0 for nothing.
-fn log_of(alloc: Global, calls: &[(u32, u32, u32, u32)]) -> Option<EventLog> {
+fn got(client: u32, key: u32, value: u32) -> Row {
+    (client, ReadOf(key), Got(value))
+}
+
+fn miss(client: u32, key: u32) -> Row {
+    (client, ReadOf(key), GotNothing)
+}
+
+/// The log of calls that each end before the next begins, so that the call of number n begins at the place 2 n.
+fn log_of(alloc: Global, calls: &[Row]) -> Option<EventLog> {
     let mut log = EventLog::new(alloc);
-    for (client, kind, key, value) in calls {
-        let (call, ending) = called(*kind, *key, *value);
-        log.push(Event::Begins(*client, call)).ok()?;
-        log.push(Event::Ends(*client, ending)).ok()?;
+    for (client, call, ending) in calls {
+        log.push(Begins(*client, *call)).ok()?;
+        log.push(Ends(*client, *ending)).ok()?;
     }
     Some(log)
 }
 
-/// A call and how it ends.
-fn called(kind: u32, key: u32, value: u32) -> (ClientCall, Ending) {
-    if kind == W {
-        (ClientCall::WriteTo(key, value), Ending::Answered)
-    } else if kind == D {
-        (ClientCall::DeleteOf(key), Ending::Answered)
-    } else if value == 0 {
-        (ClientCall::ReadOf(key), Ending::GotNothing)
-    } else {
-        (ClientCall::ReadOf(key), Ending::Got(value))
-    }
-}
-
-/// What is seen by the null read at a place of the log of these calls.
-fn seen_in(alloc: Global, calls: &[(u32, u32, u32, u32)], place: u32) -> Option<u32> {
-    seen_at(alloc, &log_of(alloc, calls)?, place)
-}
-
-/// One more than the place of the delete that is seen by the null read at a place, 0 for the start, 1000 for an open one, 2000 where some
-/// read is left with no candidate.
-fn seen_at(alloc: Global, log: &EventLog, place: u32) -> Option<u32> {
-    match forced_reads(alloc, log).ok()? {
-        ForcedReads::Impossible(_) => Some(2000),
-        ForcedReads::Forced(table) => {
-            for (read, seen) in table.entries() {
-                if *read == place {
-                    return Some(match *seen {
-                        Seen::Start => 0,
-                        Seen::Delete(delete) => delete.saturating_add(1),
-                    });
-                }
-            }
-            Some(1000)
+/// What is forced of the read at a place.
+fn forced_at(alloc: Global, log: &EventLog, place: u32) -> Option<Seen> {
+    let forced = forced_reads(alloc, log).ok()?;
+    for (read, seen) in forced.entries() {
+        if *read == place {
+            return Some(*seen);
         }
     }
+    None
+}
+
+/// What is forced of the last of these calls, a read that got nothing.
+fn last_of(alloc: Global, calls: &[Row]) -> Option<Seen> {
+    let log = log_of(alloc, calls)?;
+    forced_at(alloc, &log, log.events().saturating_sub(2))
 }
 
 #[test]
-fn one_candidate(rt: HostRuntime) {
-    // Client 0 writes and deletes, and reads nothing: the start was replaced, and the delete at place 2 alone is left.
-    let calls = &[(0, W, 0, 5), (0, D, 0, 0), (0, R, 0, 0)];
-    assert_eq!(rt; seen_in(rt.alloc(), calls, 4), Some(3));
+fn one_client(rt: HostRuntime) {
+    let alloc = rt.alloc();
+    // The write replaced the start, and the delete alone is left.
+    let calls = &[write(0, 0, 5), delete(0, 0), miss(0, 0)];
+    assert_eq!(rt; last_of(alloc, calls), Some(Seen::Delete(2)));
+    // The delete was replaced too, and nothing is left: it has the first delete.
+    let calls = &[
+        write(0, 0, 5),
+        delete(0, 0),
+        write(0, 0, 6),
+        delete(0, 0),
+        write(0, 0, 7),
+        miss(0, 0),
+    ];
+    assert_eq!(rt; last_of(alloc, calls), Some(Seen::Delete(2)));
+    // The delete comes after the read, so the start alone is left.
+    let log = log_of(alloc, &[miss(0, 0), delete(0, 0)]);
+    assert_eq!(rt;
+        log.and_then(|log| forced_at(alloc, &log, 0)),
+        Some(Seen::Start)
+    );
 }
 
 #[test]
-fn start_alone(rt: HostRuntime) {
-    // The delete comes after the read, in its session.
-    let calls = &[(0, R, 0, 0), (0, D, 0, 0)];
-    assert_eq!(rt; seen_in(rt.alloc(), calls, 0), Some(0));
-}
-
-#[test]
-fn nothing_left(rt: HostRuntime) {
-    // The delete was replaced by the write of 6, and the start too.
-    let calls = &[(0, W, 0, 5), (0, D, 0, 0), (0, W, 0, 6), (0, R, 0, 0)];
-    assert_eq!(rt; seen_in(rt.alloc(), calls, 6), Some(2000));
-}
-
-#[test]
-fn two_left(rt: HostRuntime) {
+fn more_clients(rt: HostRuntime) {
+    let alloc = rt.alloc();
     // The deletes of clients 1 and 2 are concurrent.
-    let calls = &[(0, W, 0, 5), (1, D, 0, 0), (2, D, 0, 0), (0, R, 0, 0)];
-    assert_eq!(rt; seen_in(rt.alloc(), calls, 6), Some(1000));
+    let calls = &[write(0, 0, 5), delete(1, 0), delete(2, 0), miss(0, 0)];
+    assert_eq!(rt; last_of(alloc, calls), None);
+    // Client 1 got the value of client 0, which replaced the start for it.
+    let calls = &[write(0, 0, 5), got(1, 0, 5), delete(2, 0), miss(1, 0)];
+    assert_eq!(rt; last_of(alloc, calls), Some(Seen::Delete(4)));
+    // It got no value, so the start is left too.
+    let calls = &[write(0, 0, 5), delete(2, 0), miss(1, 0)];
+    assert_eq!(rt; last_of(alloc, calls), None);
+}
+
+/// The calls of two clients. The second's read of key 0 saw the delete of the first, so what the first did before it, also to key 1, comes
+/// before the second's read of key 1.
+fn in_turn(first: u32, second: u32) -> [Row; 6] {
+    [
+        write(first, 1, 7),
+        delete(first, 1),
+        delete(first, 0),
+        write(second, 0, 9),
+        miss(second, 0),
+        miss(second, 1),
+    ]
 }
 
 #[test]
-fn start_replaced_for_others(rt: HostRuntime) {
-    // Client 1 got the value of client 0, so the start is replaced for it; the delete of client 2 alone is left.
-    let calls = &[(0, W, 0, 5), (1, R, 0, 5), (2, D, 0, 0), (1, R, 0, 0)];
-    assert_eq!(rt; seen_in(rt.alloc(), calls, 6), Some(5));
-    // Without it both are left.
-    let calls = &[(0, W, 0, 5), (2, D, 0, 0), (1, R, 0, 0)];
-    assert_eq!(rt; seen_in(rt.alloc(), calls, 4), Some(1000));
+fn one_forced_read_forces_another(rt: HostRuntime) {
+    let alloc = rt.alloc();
+    let calls = in_turn(0, 1);
+    assert_eq!(rt; last_of(alloc, &calls[..5]), Some(Seen::Delete(4)));
+    assert_eq!(rt; last_of(alloc, &calls), Some(Seen::Delete(2)));
+    // The same where the reads stand first: it takes a second pass.
+    let [a, b, c, d, e, f] = calls;
+    let log = log_of(alloc, &[d, e, f, a, b, c]);
+    assert_eq!(rt;
+        log.and_then(|log| forced_at(alloc, &log, 4)),
+        Some(Seen::Delete(8))
+    );
 }
 
 #[test]
-fn forced_in_turn(rt: HostRuntime) {
-    // The read of key 0 by client 1 saw the delete of client 0, at place 4, so what client 0 did before, the write of 7 to key 1 and the
-    // delete of key 1, comes before client 1's read of key 1, and the start of key 1 is replaced.
+fn reads_after_one_without_candidates(rt: HostRuntime) {
+    let alloc = rt.alloc();
+    // Client 2 finds nothing of key 2, which it wrote after it had deleted it. The reads of key 0 and 1 are found all the same.
+    let [a, b, c, d, e, f] = in_turn(0, 1);
     let calls = &[
-        (0, W, 1, 7),
-        (0, D, 1, 0),
-        (0, D, 0, 0),
-        (1, W, 0, 9),
-        (1, R, 0, 0),
-        (1, R, 1, 0),
+        write(2, 2, 4),
+        delete(2, 2),
+        write(2, 2, 5),
+        miss(2, 2),
+        a,
+        b,
+        c,
+        d,
+        e,
+        f,
     ];
-    assert_eq!(rt; seen_in(rt.alloc(), calls, 8), Some(5));
-    assert_eq!(rt; seen_in(rt.alloc(), calls, 10), Some(3));
-}
-
-#[test]
-fn out_of_time(rt: HostRuntime) {
-    // The same where client 1's calls stand first.
+    let log = log_of(alloc, calls);
+    assert!(rt; log.is_some());
+    if let Some(log) = log {
+        assert_eq!(rt; forced_at(alloc, &log, 6), Some(Seen::Delete(2)));
+        assert_eq!(rt; forced_at(alloc, &log, 16), Some(Seen::Delete(12)));
+        assert_eq!(rt; forced_at(alloc, &log, 18), Some(Seen::Delete(10)));
+    }
+    // So are those of a second pass.
     let calls = &[
-        (1, W, 0, 9),
-        (1, R, 0, 0),
-        (1, R, 1, 0),
-        (0, W, 1, 7),
-        (0, D, 1, 0),
-        (0, D, 0, 0),
+        d,
+        e,
+        f,
+        a,
+        b,
+        c,
+        write(2, 2, 4),
+        delete(2, 2),
+        write(2, 2, 5),
+        miss(2, 2),
     ];
-    assert_eq!(rt; seen_in(rt.alloc(), calls, 2), Some(11));
-    assert_eq!(rt; seen_in(rt.alloc(), calls, 4), Some(9));
+    let log = log_of(alloc, calls);
+    assert!(rt; log.is_some());
+    if let Some(log) = log {
+        assert_eq!(rt; forced_at(alloc, &log, 4), Some(Seen::Delete(8)));
+        assert_eq!(rt; forced_at(alloc, &log, 18), Some(Seen::Delete(14)));
+    }
 }
 
 #[test]
-fn key_with_start(rt: HostRuntime) {
-    // A key with a start: a read that got nothing saw the only delete.
-    let mut log = EventLog::new(rt.alloc());
-    assert!(rt; log.push(Event::Starts(0, 4)).is_ok());
-    assert!(rt; log.push(Event::Begins(0, ClientCall::DeleteOf(0))).is_ok());
-    assert!(rt; log.push(Event::Begins(1, ClientCall::ReadOf(0))).is_ok());
-    assert!(rt; log.push(Event::Ends(1, Ending::GotNothing)).is_ok());
-    assert_eq!(rt; seen_at(rt.alloc(), &log, 2), Some(2));
-    assert!(rt; log.push(Event::Ends(0, Ending::Failed)).is_ok());
-    assert_eq!(rt; seen_at(rt.alloc(), &log, 2), Some(1000));
+fn keys_with_a_start(rt: HostRuntime) {
+    let alloc = rt.alloc();
+    // A read that got nothing saw the only delete, if that does not fail.
+    for (ending, seen) in [(Answered, Some(Seen::Delete(1))), (Failed, None)] {
+        let mut log = EventLog::new(alloc);
+        for event in [
+            Starts(0, 4),
+            Begins(0, DeleteOf(0)),
+            Begins(1, ReadOf(0)),
+            Ends(1, GotNothing),
+            Ends(0, ending),
+        ] {
+            assert!(rt; log.push(event).is_ok());
+        }
+        assert_eq!(rt; forced_at(alloc, &log, 2), seen);
+    }
 }

@@ -80,8 +80,8 @@ pub fn the_order_of_time_only_takes_candidates_away()
     ensures { (es : List Event) (criterion : Criterion) → LogMeets true es criterion → LogMeets false es criterion }
 {}
 
-/// By a whole choice by which the history meets a criterion, what is forced is in its causal order: where one call comes before another, and
-/// that one took effect, the first took effect before it.
+/// By a whole choice by which the history meets a criterion, what is forced is in its causal order: where one call comes before another,
+/// and that one took effect, the first took effect before it.
 pub fn what_is_forced_is_in_causal_order()
     ensures { (in_time : Bool) (es : List Event) → IsAllowed es → HasDistinctValues es → (f : Choice) (criterion : Criterion)
         → MeetsBy in_time es f criterion → (a b : ℕ) → Comes in_time es a b → (q : OpId) → TookEffectBy es f b q

@@ -4,14 +4,13 @@ ghost use Rattle.std.specs.Prelude.{◌≡◌, ◌<◌, ◌^◌, ◌↔◌, ℕ,
 ghost use Rattle.std.specs.List.Sorted.{IsStrictlyIncreasing};
 ghost use Rattle.model_objects.specs.Table.{IsRising};
 ghost use Rattle.log_events.specs.Events.{run_calls};
-ghost use Rattle.log_events.specs.Steps.Tallies.{AreCounted, IsTally};
 ghost use Rattle.log_choices.specs.ChoiceTables.{choice_in};
 ghost use Rattle.log_choices.specs.ChosenLeftOut.{AreLeftOutBy};
 ghost use Rattle.log_choices.specs.Steps.ChosenCalls.{left_out_key as left_out_key_by, left_out_keys as left_out_keys_by};
 
-use crate::null_reads::{NullReads, missed_key};
+use crate::null_reads::NullReads;
 use crate::seen::Seen;
-use log_events::{EventLog, LoggedCall};
+use log_events::{EventLog, LoggedCall, tally_of};
 use model_objects::Table;
 use std::alloc::{AllocError, Global};
 
@@ -54,7 +53,7 @@ fn left_out_key(reads: &NullReads<'_>, call: &LoggedCall) -> Option<u32>
     requires { Contains (run_calls reads.now.0) call.now }
     ensures { result ≡ left_out_key_by reads.now.0 (choice_in reads.now.1) call.now.place call.now.call call.now.ending }
 {
-    let key = missed_key(call)?;
+    let key = call.missed_key()?;
     match reads.saw(call.place(), key) {
         None => Some(key),
         Some(_) => None,

@@ -6,13 +6,22 @@
 //!
 //! At run time a choice is a table of what null reads saw, each [`Seen`], by the places of their begins (`specs/ChoiceTables`). By it
 //! [`history_by`] gives the history, [`origins_by`] for each operation of it the call, and [`left_out_by`] the reads that it leaves out.
-//! The crate uses log_events and pattern_check.
+//! [`forced_reads`] finds what null reads saw that are left with one candidate: where the history by this choice does not meet a criterion,
+//! the log does not. The crate uses log_events and pattern_check.
 #![tactic(auto)]
 
 mod chosen_calls;
 mod chosen_history;
 mod client_calls;
 mod entries;
+mod forced;
+mod forced_kept;
+mod forced_looks;
+mod forced_pass;
+mod forced_pasts;
+mod forced_plan;
+#[cfg(test)]
+mod forced_tests;
 pub mod laws;
 mod left_out;
 mod lost_calls;
@@ -24,5 +33,6 @@ mod sessions;
 mod tests;
 
 pub use chosen_history::{history_by, no_choice_leaves_null_reads_out, origins_by};
+pub use forced::forced_reads;
 pub use left_out::left_out_by;
 pub use seen::Seen;

@@ -7,7 +7,7 @@ ghost use Rattle.log_choices.specs.ChoiceTables.{choice_in};
 ghost use Rattle.log_choices.specs.ChosenHistories.{is_seen};
 ghost use Rattle.log_choices.specs.Steps.ChosenCalls.{fork_places, seen_pair as seen_pair_by};
 
-use crate::null_reads::{NullReads, missed_key};
+use crate::null_reads::NullReads;
 use crate::seen::Seen;
 use log_events::{EventLog, LoggedCall};
 use std::alloc::{AllocError, Global};
@@ -52,7 +52,7 @@ fn seen_pair(reads: &NullReads<'_>, call: &LoggedCall) -> Option<(u32, u32)>
     requires { Contains (run_calls reads.now.0) call.now }
     ensures { result ≡ seen_pair_by reads.now.0 (choice_in reads.now.1) call.now.place call.now.call call.now.ending }
 {
-    let key = missed_key(call)?;
+    let key = call.missed_key()?;
     match reads.saw(call.place(), key) {
         Some(Seen::Delete(place)) => Some((key, place)),
         _ => None,

@@ -5,12 +5,12 @@ ghost use Rattle.std.specs.Map.{keys_of as keys_in};
 ghost use Rattle.model_objects.specs.Table.{IsRising};
 ghost use Rattle.log_events.specs.Events.{run_calls};
 ghost use Rattle.log_events.specs.Histories.{is_deleted as deleted_in};
-ghost use Rattle.log_events.specs.Steps.CallKinds.{missed_key as missed_key_of, missed_keys};
+ghost use Rattle.log_events.specs.Steps.CallKinds.{missed_keys};
 ghost use Rattle.log_choices.specs.ChoiceTables.{choice_in, seen_of};
 ghost use Rattle.log_choices.specs.ChosenHistories.{saw as saw_by};
 
 use crate::seen::Seen;
-use log_events::{ClientCall, Ending, EventLog, LoggedCall};
+use log_events::EventLog;
 use model_objects::Table;
 use std::alloc::{AllocError, Global};
 use std::marker::Model;
@@ -77,16 +77,6 @@ impl<'a> NullReads<'a> {
         ensures { result ≡ deleted_in self.now.0 key }
     {
         self.keys.binary_search(&key).is_ok()
-    }
-}
-
-/// The key of a read that got nothing.
-pub(crate) fn missed_key(call: &LoggedCall) -> Option<u32>
-    ensures { result ≡ missed_key_of call.now.call call.now.ending }
-{
-    match (call.call(), call.ending()) {
-        (ClientCall::ReadOf(key), Some(Ending::GotNothing)) => Some(key),
-        _ => None,
     }
 }
 

@@ -13,8 +13,8 @@ use model_objects::{KeyedCall, RegisterCall, RegisterRet, Table};
 use std::alloc::{AllocError, Global};
 use std::test::Fail;
 
-/// A client writes 7 to the key 3, loses a delete of it that begins at the place 2, and reads 7. Another finds nothing there, by a read that
-/// begins at the place 4.
+/// A client writes 7 to the key 3, loses a delete of it that begins at the place 2, and reads 7. Another finds nothing there, by a read
+/// that begins at the place 4.
 const LOST_DELETE: [Event; 8] = [
     Begins(0, WriteTo(3, 7)),
     Ends(0, Answered),

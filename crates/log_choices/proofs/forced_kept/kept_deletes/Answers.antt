@@ -1,4 +1,4 @@
-use Rattle.std.proofs.Common.{◌≡◌, ◌∙◌, ap, List, ℕ, map, rules}
+use Rattle.std.proofs.Common.{◌∙◌, ap, List, rules}
 use Rattle.std.specs.Prelude.{filter_map}
 use Rattle.std.proofs.lemmas.List.Sorted.{answers_always}
 use Rattle.log_events.specs.Events.{Call}

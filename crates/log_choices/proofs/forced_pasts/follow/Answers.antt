@@ -1,4 +1,4 @@
-use Rattle.std.proofs.Common.{◌≡◌, subst, sym, List, ℕ}
+use Rattle.std.proofs.Common.{subst, List, ℕ}
 use Rattle.log_choices.proofs.ForcedPasts.{IsJoined, past-followed}
 use Rattle.log_choices.proofs.forced_pasts.follow.Goals as goal
 

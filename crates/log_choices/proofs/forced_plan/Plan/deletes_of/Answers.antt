@@ -1,7 +1,6 @@
-use Rattle.std.proofs.Common.{◌≡◌, ◌<◌, ◌≤◌, ◌-◌, Bool, true, false, List, [], take, drop, length, subst, sym, rules, arith}
-use Rattle.std.specs.Prelude.{Contains, IsSortedByKey}
+use Rattle.std.proofs.Common.{◌≡◌, ◌≤◌, ◌-◌, true, false, List, take, drop, length, subst, sym, rules, arith}
+use Rattle.std.specs.Prelude.{Contains}
 use Rattle.std.specs.List.Sorted.{IsNonDecreasingBy, IsPartitionPoint}
-use Rattle.std.specs.Ordering.{nat_cmp}
 use Rattle.std.proofs.lemmas.List.Sorted.{IsNonDecreasingBy-from_sort, IsPartitionedBy-ltb, IsPartitionedBy-leb, IsPartitionPoint-from_clause}
 use Rattle.log_choices.specs.declared.forced_kept.Delete.{Delete}
 use Rattle.log_choices.proofs.ForcedDeletes.{within-from, within-to}

@@ -1,4 +1,4 @@
-use Rattle.std.proofs.Common.{◌≡◌, ◌<◌, ◌≢◌, ◌∙◌, length, get_or, sym, arith}
+use Rattle.std.proofs.Common.{◌≢◌, ◌∙◌, length, get_or, sym, arith}
 use Rattle.std.proofs.lemmas.Bool.{eqb-false}
 use Rattle.log_choices.specs.ForcedSteps.{IsKeptWrite}
 use Rattle.log_choices.proofs.ForcedCalls.{all-at}

@@ -8,7 +8,7 @@ use Rattle.log_choices.proofs.forced_plan.Plan.left_of.Goals as goal
 use Rattle.log_choices.proofs.forced_plan.Plan.left_of.Goals.{then-not-is_out+in-NoneLeft, else-not-is_out}
 
 abbrev none : Delete
-none = record { key = 0; place = 0; number = 0 }
+none = record { key = 0; place = 0 }
 
 pub is_out-requires-clause-listed : goal.is_out-requires-clause-listed
 is_out-requires-clause-listed c =

@@ -1,0 +1,5 @@
+use Rattle.log_choices.proofs.ForcedPasses.{IsPassed}
+use Rattle.log_choices.proofs.forced_pass.pass.Given as goal
+
+abbrev pub invariant-loop-call : goal.invariant-loop-call
+invariant-loop-call l = IsPassed l.log l.call-index l.plan l.pasts.items l.found.seen
