@@ -15,11 +15,11 @@ use Rattle.log_choices.proofs.ForcedLooks.{look-from}
 
 pub look-is : (es : List Event) (read : NullRead) (gets : GetsNothing es read) (deletes part : List Delete) → AreDeletes es deletes
     → ((d : Delete) → Contains part d ↔ (Contains deletes d × (d.key ≡ read.key))) → (first : Delete) → Contains part first
-    → (left : Left) (b : Bool) → IsLeft es read.place part left → (IsTrue b → (k v : ℕ) → ¬ IsAt es k (Starts read.key v))
+    → (left : Left) (b : Bool) → IsLeft in_time es read.place part left → (IsTrue b → (k v : ℕ) → ¬ IsAt es k (Starts read.key v))
     → (b ≡ false → (p : ℕ) → BeginsKeptDelete es read.key p → ((k v : ℕ) → ¬ IsAt es k (Starts read.key v))
-    → IsOut false es read.place None) → IsLook es read.place (look_by left b first)
-look-is es read gets deletes part are exact first within left b outs start out =
-    look-from es read gets part first.place (listed first within) listed lists left b outs start
+    → IsOut in_time es read.place None) → IsLook in_time es read.place (look_by left b first)
+look-is in_time es read gets deletes part are exact first within left b outs start out =
+    look-from in_time es read gets part first.place (listed first within) listed lists left b outs start
     (λ no. out no first.place (listed first within)) first within
   where
     listed : (d : Delete) → Contains part d → BeginsKeptDelete es read.key d.place

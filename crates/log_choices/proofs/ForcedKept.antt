@@ -22,7 +22,7 @@ use Rattle.std.proofs.lemmas.Bool.{cases_eq}
 module _ (es : List Event) where
   pub kept-is : (a : Call) → Contains (run_calls es) a → (w : Kept) → w.client ≡ a.client → w.place ≡ a.place
       → written_by a.call a.ending ≡ Some (w.key, w.value) → (w.is_lost ≡ false → a.ending ≢ Some Lost) → w.place < MAX_EVENTS
-      → ((c : ℕ) → slice_index w.past.items c ≡ 0) → IsKeptWrite es w
+      → ((c : ℕ) → slice_index w.past.items c ≡ 0) → IsKeptWrite in_time es w
   kept-is a listed w client place written lost small empty = record {
     begun = ap (slice_get es) place ∙ (call-placed es a listed).begun ∙ (λ i. Some (Begins (sym client i) (call i)));
     not_failed = λ k end. call-unended es a listed Failed stays k (back Failed k end);
@@ -55,17 +55,17 @@ module _ (es : List Event) where
       let same : Some GotNothing ≡ Some e = sym first ∙ second in other cc
 
   -- a read comes before a write where a count of its client, of what comes before the write, is above its place
-  pub read-precedes : (read : NullRead) → GetsNothing es read → (w : Kept) → IsKeptWrite es w → read.place < slice_index w.past.items read.client
-      → Comes false es read.place w.place
+  pub read-precedes : (read : NullRead) → GetsNothing es read → (w : Kept) → IsKeptWrite in_time es w → read.place < slice_index w.past.items read.client
+      → Comes in_time es read.place w.place
   read-precedes read gets w kept below =
       let p : ℕ = slice_index w.past.items read.client - 1 in
       let is : slice_index w.past.items read.client ≡ suc p = omega arith in
       let ((call, at), comes) = kept.past read.client p is in ⊎_elim
-      {C = Comes false es read.place w.place}
-      (λ (same : p ≡ read.place). subst (λ (n : ℕ). Comes false es n w.place) same comes)
+      {C = Comes in_time es read.place w.place}
+      (λ (same : p ≡ read.place). subst (λ (n : ℕ). Comes in_time es n w.place) same comes)
       (λ (other : p ≢ read.place).
-      let first : Comes false es read.place p =
-      session-comes es read.client read.place p (ReadOf read.key) call gets.ended.was_open.begun at (omega arith)
+      let first : Comes in_time es read.place p =
+      session-comes in_time es read.client read.place p (ReadOf read.key) call gets.ended.was_open.begun at (omega arith)
       (gets-otherwise read gets Failed (λ same. absurd cc)) (gets-otherwise read gets Lost (λ same. absurd cc)) in
       through first comes)
       (cases_eq p read.place)

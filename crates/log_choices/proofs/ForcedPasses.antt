@@ -49,37 +49,37 @@ rising-push table r s rising below =
         rw (get_or-map (λ (entry : ℕ × Seen). entry.0) table k (0, Start) d short) (below k (0, Start) short)
 
 module _ (es : List Event) where
-  pub none-forced : AreForcedReads es []
+  pub none-forced : AreForcedReads in_time es []
   none-forced = record { seen = λ k e below. absurd (omega arith); rising = λ i inside. absurd (omega arith) }
 
-  pub found-pushed : (table : List (ℕ × Seen)) (r : ℕ) (s : Seen) → AreFoundBelow es r table → IsLeftWith es r (seen_of s)
-      → AreFoundBelow es (r + 1) (table ++ (r, s) ∷ [])
+  pub found-pushed : (table : List (ℕ × Seen)) (r : ℕ) (s : Seen) → AreFoundBelow in_time es r table → IsLeftWith in_time es r (seen_of s)
+      → AreFoundBelow in_time es (r + 1) (table ++ (r, s) ∷ [])
   found-pushed table r s found left = record {
     forced = record {
-      seen = All-push (λ (entry : ℕ × Seen). IsLeftWith es entry.0 (seen_of entry.1)) table (r, s) found.forced.seen left;
+      seen = All-push (λ (entry : ℕ × Seen). IsLeftWith in_time es entry.0 (seen_of entry.1)) table (r, s) found.forced.seen left;
       rising = rising-push table r s found.forced.rising found.below;
     };
     below = All-push (λ (entry : ℕ × Seen). entry.0 < r + 1) table (r, s) (λ k e short. let less = found.below k e short in omega arith)
         (omega arith);
   }
 
-  pub found-later : (table : List (ℕ × Seen)) (a b : ℕ) → a ≤ b → AreFoundBelow es a table → AreFoundBelow es b table
+  pub found-later : (table : List (ℕ × Seen)) (a b : ℕ) → a ≤ b → AreFoundBelow in_time es a table → AreFoundBelow in_time es b table
   found-later table a b later found = record {
     forced = found.forced;
     below = λ k e short. let less = found.below k e short in omega arith;
   }
 
   -- the delete that a read must have seen comes before it
-  pub seen-comes : (r p : ℕ) → IsLeftWith es r (Some p) → Comes false es p r
+  pub seen-comes : (r p : ℕ) → IsLeftWith in_time es r (Some p) → Comes in_time es p r
   seen-comes r p left = only_left left.client left.key left.ends left.null left.others
 
   -- what an earlier pass has found
-  pub look-earlier : (table : List (ℕ × Seen)) (r : ℕ) (s : Seen) → AreForcedReads es table → Some s ≡ value_at table r → IsLook es r (Some s)
-  look-earlier table r s forced is = entry-of es table r (seen_of s) forced.seen (ap (option_map seen_of) (sym is))
+  pub look-earlier : (table : List (ℕ × Seen)) (r : ℕ) (s : Seen) → AreForcedReads in_time es table → Some s ≡ value_at table r → IsLook in_time es r (Some s)
+  look-earlier table r s forced is = entry-of in_time es table r (seen_of s) forced.seen (ap (option_map seen_of) (sym is))
 
   -- a write comes before a read that got its value
-  pub source-comes : (w : Kept) → IsKeptWrite es w → (a : Call) → Contains (run_calls es) a → (x v : ℕ) → a.call ≡ ReadOf x
-      → a.ending ≡ Some (Got v) → w.key ≡ x → w.value ≡ Some v → Comes false es w.place a.place
+  pub source-comes : (w : Kept) → IsKeptWrite in_time es w → (a : Call) → Contains (run_calls es) a → (x v : ℕ) → a.call ≡ ReadOf x
+      → a.ending ≡ Some (Got v) → w.key ≡ x → w.value ≡ Some v → Comes in_time es w.place a.place
   source-comes w kept a listed x v read got key value = returned (record {
     client = w.client;
     reader = a.client;
@@ -101,8 +101,8 @@ module _ (es : List Event) where
       end = let (j, ended) = call-ended es a listed (Got v) got in (j, subst (λ (d : ClientCall). IsEnded es a.client d a.place j (Got v)) read ended)
 
   -- a write with other counts of what comes before it
-  pub kept-renewed : (w v : Kept) → IsKeptWrite es w → v ≡ record w { past = v.past } → IsPast es v.past.items w.place → IsKeptWrite es v
-  kept-renewed w v kept is past = subst (IsKeptWrite es) (sym is) (record {
+  pub kept-renewed : (w v : Kept) → IsKeptWrite in_time es w → v ≡ record w { past = v.past } → IsPast in_time es v.past.items w.place → IsKeptWrite in_time es v
+  kept-renewed w v kept is past = subst (IsKeptWrite in_time es) (sym is) (record {
     begun = kept.begun;
     not_failed = kept.not_failed;
     not_lost = kept.not_lost;
@@ -111,27 +111,27 @@ module _ (es : List Event) where
   })
 
   -- nothing is known to come before calls by counts that are 0
-  pub blank-past : (counts : List ℕ) → ((c : ℕ) → slice_index counts c ≡ 0) → (client b : ℕ) → IsPastFrom es client b counts
+  pub blank-past : (counts : List ℕ) → ((c : ℕ) → slice_index counts c ≡ 0) → (client b : ℕ) → IsPastFrom in_time es client b counts
   blank-past counts blank client b q call later at c p is = let none = blank c in absurd (omega arith)
 
-  pub past-later : (client a b : ℕ) (counts : List ℕ) → a ≤ b → IsPastFrom es client a counts → IsPastFrom es client b counts
+  pub past-later : (client a b : ℕ) (counts : List ℕ) → a ≤ b → IsPastFrom in_time es client a counts → IsPastFrom in_time es client b counts
   past-later client a b counts later past q call above at = past q call (omega arith) at
 
-  pub past-here : (a : Call) (counts : List ℕ) → Contains (run_calls es) a → IsPastFrom es a.client a.place counts → IsPast es counts a.place
+  pub past-here : (a : Call) (counts : List ℕ) → Contains (run_calls es) a → IsPastFrom in_time es a.client a.place counts → IsPast in_time es counts a.place
   past-here a counts listed past = past a.place a.call (omega arith) (call-placed es a listed).begun
 
   -- after a call that neither failed nor was lost, and after one that did
   pub gone-past : (a : Call) (old new : List ℕ) → Contains (run_calls es) a → (a.ending ≡ Some Lost ⊎ a.ending ≡ Some Failed → ⊥)
-      → IsRaised old new a.client a.place → IsPast es old a.place → IsPastFrom es a.client (a.place + 1) new
+      → IsRaised old new a.client a.place → IsPast in_time es old a.place → IsPastFrom in_time es a.client (a.place + 1) new
   gone-past a old new listed stays raised past =
-      past-advanced es a.client a.place a.call old new raised (call-placed es a listed).begun
+      past-advanced in_time es a.client a.place a.call old new raised (call-placed es a listed).begun
       (call-unended es a listed Failed (λ failed. stays (inr failed))) (call-unended es a listed Lost (λ lost. stays (inl lost))) past
 
   pub not-gone : (a : Call) (counts : List ℕ) → a.ending ≡ Some Lost ⊎ a.ending ≡ Some Failed
-      → IsPastFrom es a.client a.place counts ⊎ IsAnswered a.ending → IsPastFrom es a.client (a.place + 1) counts
+      → IsPastFrom in_time es a.client a.place counts ⊎ IsAnswered a.ending → IsPastFrom in_time es a.client (a.place + 1) counts
   not-gone a counts ended later = ⊎_elim
-      {C = IsPastFrom es a.client (a.place + 1) counts}
-      (λ (past : IsPastFrom es a.client a.place counts). past-later a.client a.place (a.place + 1) counts (omega arith) past)
+      {C = IsPastFrom in_time es a.client (a.place + 1) counts}
+      (λ (past : IsPastFrom in_time es a.client a.place counts). past-later a.client a.place (a.place + 1) counts (omega arith) past)
       (λ (answered : IsAnswered a.ending). absurd (⊎_elim {C = ⊥} answered.2 answered.1 ended))
       later
 
@@ -153,11 +153,11 @@ module _ (es : List Event) where
   pub record IsPassed {Z : Type 0} (i : ℕ) (plan : Plan) (pasts : List (Vec ℕ Z)) (table : List (ℕ × Seen)) : Type 0 where
     pub from : ℕ
     pub later : (k : ℕ) (a : Call) → i ≤ k → slice_get (run_calls es) k ≡ Some a → from ≤ a.place
-    pub planned : IsPlan es plan
-    pub known : ArePasts es from pasts
-    pub found : AreFoundBelow es from table
+    pub planned : IsPlan in_time es plan
+    pub known : ArePasts in_time es from pasts
+    pub found : AreFoundBelow in_time es from table
 
-  pub passed-first : {Z : Type 0} (plan : Plan) (pasts : List (Vec ℕ Z)) → IsPlan es plan → ((b : ℕ) → ArePasts es b pasts)
+  pub passed-first : {Z : Type 0} (plan : Plan) (pasts : List (Vec ℕ Z)) → IsPlan in_time es plan → ((b : ℕ) → ArePasts in_time es b pasts)
       → IsPassed 0 plan pasts []
   passed-first plan pasts is all = record {
     from = 0;
@@ -169,8 +169,8 @@ module _ (es : List Event) where
 
   -- after a call
   pub passed-next : {Z : Type 0} (i k : ℕ) (plan after : Plan) (pasts : List (Vec ℕ Z)) (past : Vec ℕ Z) (table more : List (ℕ × Seen))
-      (a : Call) → IsPassed i plan pasts table → slice_get (run_calls es) i ≡ Some a → k ≡ a.client → IsPlan es after
-      → IsPastFrom es a.client (a.place + 1) past.items → AreFoundBelow es (a.place + 1) more
+      (a : Call) → IsPassed i plan pasts table → slice_get (run_calls es) i ≡ Some a → k ≡ a.client → IsPlan in_time es after
+      → IsPastFrom in_time es a.client (a.place + 1) past.items → AreFoundBelow in_time es (a.place + 1) more
       → IsPassed (i + 1) after (set pasts k past) more
   passed-next {Z} i k plan after pasts past table more a passed at same is own found =
       subst (λ (n : ℕ). IsPassed (i + 1) after (set pasts n past) more) (sym same) (record {
@@ -184,15 +184,15 @@ module _ (es : List Event) where
       first : passed.from ≤ a.place
       first = passed.later i a (omega arith) at
 
-      each : ArePasts es (a.place + 1) (set pasts a.client past)
+      each : ArePasts in_time es (a.place + 1) (set pasts a.client past)
       each client there stands = ⊎_elim
-          {C = IsPastFrom es client (a.place + 1) there.items}
+          {C = IsPastFrom in_time es client (a.place + 1) there.items}
           (λ (same : client ≡ a.client).
           let inside : a.client < length pasts = omega (arith, slice_get_within (set pasts a.client past) client there stands, length-set pasts a.client past) in
           let new : past ≡ there = sym (get_or-set_same pasts a.client past there inside)
           ∙ ap (λ (n : ℕ). get_or (set pasts a.client past) n there) (sym same) ∙ get_or_from_slice_get _ client there there stands in
-          subst (λ (v : Vec ℕ Z). IsPastFrom es client (a.place + 1) v.items) new
-          (subst (λ (n : ℕ). IsPastFrom es n (a.place + 1) past.items) (sym same) own))
+          subst (λ (v : Vec ℕ Z). IsPastFrom in_time es client (a.place + 1) v.items) new
+          (subst (λ (n : ℕ). IsPastFrom in_time es n (a.place + 1) past.items) (sym same) own))
           (λ (other : client ≢ a.client).
           let inside : client < length pasts = omega (arith, slice_get_within (set pasts a.client past) client there stands, length-set pasts a.client past) in
           let old : get_or pasts client there ≡ there = sym (get_or-set_other pasts a.client client past there other)
@@ -214,12 +214,12 @@ module _ (es : List Event) where
 
   pub passed-past : {Z : Type 0} (i k : ℕ) (plan : Plan) (pasts : List (Vec ℕ Z)) (table : List (ℕ × Seen)) (a : Call) (d : Vec ℕ Z)
       → IsPassed i plan pasts table → slice_get (run_calls es) i ≡ Some a → k ≡ a.client → k < length pasts
-      → IsPastFrom es a.client a.place (get_or pasts k d).items
+      → IsPastFrom in_time es a.client a.place (get_or pasts k d).items
   passed-past i k plan pasts table a d passed at client inside =
       let own = passed.known k (get_or pasts k d) (slice_get-get_or pasts k d inside) in
       past-later a.client passed.from a.place (get_or pasts k d).items (passed.later i a (omega arith) at)
-      (subst (λ (n : ℕ). IsPastFrom es n passed.from (get_or pasts k d).items) client own)
+      (subst (λ (n : ℕ). IsPastFrom in_time es n passed.from (get_or pasts k d).items) client own)
 
   pub passed-found : {Z : Type 0} (i : ℕ) (plan : Plan) (pasts : List (Vec ℕ Z)) (table : List (ℕ × Seen)) (a : Call)
-      → IsPassed i plan pasts table → slice_get (run_calls es) i ≡ Some a → AreFoundBelow es a.place table
+      → IsPassed i plan pasts table → slice_get (run_calls es) i ≡ Some a → AreFoundBelow in_time es a.place table
   passed-found i plan pasts table a passed at = found-later table passed.from a.place (passed.later i a (omega arith) at) passed.found

@@ -1,5 +1,5 @@
 -- What the reads of a log that found nothing may have seen.
-use Rattle.std.specs.Prelude.{◌≡◌, ◌≢◌, ℕ, ◌<◌, Bool, IsTrue, List, Option, Some, None}
+use Rattle.std.specs.Prelude.{◌≡◌, ◌≢◌, ◌⊎◌, ℕ, ◌<◌, Bool, IsTrue, List, Option, Some, None}
 use Rattle.log_events.specs.declared.event.ClientCall.TheVariants.{ReadOf, DeleteOf}
 use Rattle.log_events.specs.declared.event.Ending.TheVariants.{GotNothing, Failed}
 use Rattle.log_events.specs.declared.event.Event.{Event}
@@ -30,6 +30,12 @@ Choice = ℕ → Option (Option ℕ)
 abbrev pub IsChoice : Bool → List Event → Choice → Type 0
 IsChoice in_time es f =
     (client x i j : ℕ) (c : Option ℕ) → IsNullRead es client x i j → f i ≡ Some c → IsCandidate in_time es x j c
+
+-- the same, but for null reads that have no candidate
+abbrev pub IsChoiceWherePossible : Bool → List Event → Choice → Type 0
+IsChoiceWherePossible in_time es f =
+    (client x i j : ℕ) (c : Option ℕ) → IsNullRead es client x i j → f i ≡ Some c
+    → IsCandidate in_time es x j c ⊎ ((d : Option ℕ) → ¬ IsCandidate in_time es x j d)
 
 -- no null read is left out
 abbrev pub IsWhole : List Event → Choice → Type 0

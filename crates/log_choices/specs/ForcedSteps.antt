@@ -1,5 +1,5 @@
 -- What the pass over a log that finds what is forced keeps.
-use Rattle.std.specs.Prelude.{◌≡◌, ◌≢◌, ⊤, ◌<◌, ◌≤◌, ℕ, suc, Bool, true, false, List, All, Option, Some, None, option_map}
+use Rattle.std.specs.Prelude.{◌≡◌, ◌≢◌, ◌⊎◌, ⊤, ◌<◌, ◌≤◌, ℕ, suc, Bool, true, false, List, All, IsTrue, Option, Some, None, option_map}
 use Rattle.std.specs.Prelude.{slice_get, slice_index, IsSortedByKey, Contains}
 use Rattle.std.specs.Ordering.{nat_cmp}
 use Rattle.std.specs.declared.vec.Vec.{Vec}
@@ -44,11 +44,17 @@ abbrev pub writing : ℕ → Option ℕ → ClientCall
 writing x (Some v) = WriteTo x v
 writing x None = DeleteOf x
 
--- what a null read must have seen, by which deletes are left, whether the start is, and the first delete of the key; or none, where more
--- than one is left
-abbrev pub look_by : Left → Bool → Delete → Option Seen
+-- the first of the deletes of a key that begins before the read had ended, where that counts
+abbrev pub IsFirst : Bool → ℕ → List Delete → Option Delete → Type 0
+IsFirst in_time j deletes None = All (λ d. IsTrue in_time × (j ≤ d.place)) deletes
+IsFirst in_time j deletes (Some d) = Contains deletes d × (IsTrue in_time → d.place < j)
+
+-- what a null read must have seen, by which deletes are left, whether the start is, and that first delete; or none, where more than one is
+-- left
+abbrev pub look_by : Left → Bool → Option Delete → Option Seen
 look_by NoneLeft true first = Some Start
-look_by NoneLeft false first = Some (SeenDelete first.place)
+look_by NoneLeft false None = Some Start
+look_by NoneLeft false (Some d) = Some (SeenDelete d.place)
 look_by (OneLeft d) false first = Some (SeenDelete d.place)
 look_by (OneLeft d) true first = None
 look_by MoreLeft b first = None
@@ -62,9 +68,21 @@ abbrev pub IsAnswered : Option Ending → Type 0
 IsAnswered ending = (ending ≢ None) × (ending ≢ Some Failed) × (ending ≢ Some Lost)
 
 module _ (es : List Event) where
+  -- the deletes that did not fail, by key
+  pub record AreDeletes (deletes : List Delete) : Type 0 where
+    pub listed : All (λ d. BeginsKeptDelete es d.key d.place) deletes
+    pub lists : (x p : ℕ) → BeginsKeptDelete es x p → (d : Delete) × Contains deletes d × (d.key ≡ x) × (d.place ≡ p)
+    pub sorted : IsSortedByKey (λ d. d.key) nat_cmp deletes
+
+  -- a read got nothing
+  pub record GetsNothing (read : NullRead) : Type 0 where
+    pub small : read.key ≤ MAX_NAME
+    pub ended : IsEnded es read.client (ReadOf read.key) read.place read.end GotNothing
+
+module _ (in_time : Bool) (es : List Event) where
   -- each count is one more than the place of a call of that client that comes before the call at the place q
   abbrev pub IsPast : List ℕ → ℕ → Type 0
-  IsPast counts q = (c p : ℕ) → slice_index counts c ≡ suc p → ((call : ClientCall) × IsAt es p (Begins c call)) × Comes false es p q
+  IsPast counts q = (c p : ℕ) → slice_index counts c ≡ suc p → ((call : ClientCall) × IsAt es p (Begins c call)) × Comes in_time es p q
 
   -- of each call that the client begins at the place b or after it
   abbrev pub IsPastFrom : ℕ → ℕ → List ℕ → Type 0
@@ -82,41 +100,35 @@ module _ (es : List Event) where
     pub small : w.place < MAX_EVENTS
     pub past : IsPast w.past.items w.place
 
-  -- the deletes that did not fail, by key
-  pub record AreDeletes (deletes : List Delete) : Type 0 where
-    pub listed : All (λ d. BeginsKeptDelete es d.key d.place) deletes
-    pub lists : (x p : ℕ) → BeginsKeptDelete es x p → (d : Delete) × Contains deletes d × (d.key ≡ x) × (d.place ≡ p)
-    pub sorted : IsSortedByKey (λ d. d.key) nat_cmp deletes
-
   -- what the pass looks up
   pub record IsPlan (plan : Plan) : Type 0 where
     pub writes : All IsKeptWrite plan.writes.items
-    pub deletes : AreDeletes plan.deletes.items
-
-  -- a read got nothing
-  pub record GetsNothing (read : NullRead) : Type 0 where
-    pub small : read.key ≤ MAX_NAME
-    pub ends : ℕ
-    pub ended : IsEnded es read.client (ReadOf read.key) read.place ends GotNothing
+    pub deletes : AreDeletes es plan.deletes.items
 
   -- the write of that number is of the key, and comes before the call at the place r
   abbrev pub IsReplacing : List Kept → ℕ → ℕ → ℕ → Type 0
-  IsReplacing writes x r number = (w : Kept) × (slice_get writes number ≡ Some w) × (w.key ≡ x) × Comes false es w.place r
+  IsReplacing writes x r number = (w : Kept) × (slice_get writes number ≡ Some w) × (w.key ≡ x) × Comes in_time es w.place r
 
-  -- of some deletes none, one or more may be what the read at the place r saw
-  abbrev pub IsLeft : ℕ → List Delete → Left → Type 0
-  IsLeft r deletes NoneLeft = All (λ d. IsOut false es r (Some d.place)) deletes
-  IsLeft r deletes (OneLeft e) = Contains deletes e × All (λ d. d.place ≢ e.place → IsOut false es r (Some d.place)) deletes
-  IsLeft r deletes MoreLeft = ⊤
+  -- the null read that begins at the place r and ends at the place j can't have seen the delete that begins at the place p: it is out, or
+  -- it begins after the read had ended, in the order of time
+  abbrev pub IsExcluded : ℕ → ℕ → ℕ → Type 0
+  IsExcluded r j p = IsOut in_time es r (Some p) ⊎ (IsTrue in_time × (j ≤ p))
 
-  -- this is a candidate of the null read that begins at the place r, and each other candidate is out
+  -- of some deletes none, one or more may be what the read saw
+  abbrev pub IsLeft : ℕ → ℕ → List Delete → Left → Type 0
+  IsLeft r j deletes NoneLeft = All (λ d. IsExcluded r j d.place) deletes
+  IsLeft r j deletes (OneLeft e) =
+      Contains deletes e × (IsTrue in_time → e.place < j) × All (λ d. d.place ≢ e.place → IsExcluded r j d.place) deletes
+  IsLeft r j deletes MoreLeft = ⊤
+
+  -- this is a candidate of the null read that begins at the place r, or it has none; and each other candidate is out
   pub record IsLeftWith (r : ℕ) (c : Option ℕ) : Type 0 where
     pub client : ℕ
     pub key : ℕ
     pub ends : ℕ
     pub null : IsNullRead es client key r ends
-    pub candidate : IsCandidate false es key ends c
-    pub others : (d : Option ℕ) → IsCandidate false es key ends d → d ≢ c → IsOut false es r d
+    pub candidate : IsCandidate in_time es key ends c ⊎ ((d : Option ℕ) → ¬ IsCandidate in_time es key ends d)
+    pub others : (d : Option ℕ) → IsCandidate in_time es key ends d → d ≢ c → IsOut in_time es r d
 
   -- what is found of the read that begins at the place r, if anything is
   abbrev pub IsLook : ℕ → Option Seen → Type 0

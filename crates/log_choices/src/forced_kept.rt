@@ -1,6 +1,6 @@
 //! The writes and deletes of a log that did not fail.
 
-ghost use Rattle.std.specs.Prelude.{◌≡◌, ◌↔◌, All, Contains, IfOk, IfSome, IsTrue, Some, filter_map, map};
+ghost use Rattle.std.specs.Prelude.{◌≡◌, ◌↔◌, All, Bool, Contains, IfOk, IfSome, IsTrue, Some, filter_map, map};
 ghost use Rattle.log_events.specs.declared.event.Ending.TheVariants.{Lost as IsLost};
 ghost use Rattle.log_events.specs.Events.{run_calls};
 ghost use Rattle.log_choices.specs.ForcedSteps.{AreDeletes, IsKeptWrite, deleted_spot, spot_of, written_by};
@@ -35,7 +35,7 @@ pub(crate) struct Delete {
 ///
 /// Fails for want of memory alone. O(n) for n calls.
 pub(crate) fn kept_writes(alloc: Global, log: &EventLog) -> Result<Vec<Kept>, AllocError>
-    ensures { IfOk result (λ writes. All (IsKeptWrite log.now) writes.items) }
+    ensures { IfOk result (λ writes. (in_time : Bool) → All (IsKeptWrite in_time log.now) writes.items) }
 {
     let mut writes = Vec::new(alloc);
     for call in log.calls() {
@@ -49,7 +49,7 @@ pub(crate) fn kept_writes(alloc: Global, log: &EventLog) -> Result<Vec<Kept>, Al
 /// A call as a write or a delete that did not fail, with nothing known of what comes before it.
 fn kept_write(alloc: Global, log: &EventLog, call: &LoggedCall) -> Option<Kept>
     requires { Contains (run_calls log.now) call.now }
-    ensures { IfSome result (IsKeptWrite log.now) }
+    ensures { IfSome result (λ write. (in_time : Bool) → IsKeptWrite in_time log.now write) }
 {
     // It opens the log, so that its calls are known to be small.
     let _log = log.calls();

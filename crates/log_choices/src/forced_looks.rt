@@ -1,11 +1,12 @@
 //! What a null read can have seen, by what is known to come before it.
 
-ghost use Rattle.std.specs.Prelude.{◌≡◌, ◌≢◌, ◌<◌, ℕ, suc, List, All, Contains, IfOk, IsTrue, Some, None, false, slice_get};
+ghost use Rattle.std.specs.Prelude.{◌≡◌, ◌≢◌, ◌<◌, ◌≤◌, ◌*◌, ℕ, suc, List, All, Contains, IfOk, IsTrue, OnOk, Some, None, false, slice_get};
 ghost use Rattle.log_events.specs.declared.event.Event.TheVariants.{Starts};
 ghost use Rattle.log_events.specs.Events.{IsAt};
 ghost use Rattle.log_choices.specs.Choices.{BeginsKeptDelete};
 ghost use Rattle.log_choices.specs.Forced.{Comes, IsOut};
-ghost use Rattle.log_choices.specs.ForcedSteps.{AreOfKey, GetsNothing, IsKeptWrite, IsLeft, IsLook, IsPast, IsPlan, IsReplacing, look_by};
+ghost use Rattle.log_choices.specs.ForcedSteps.{AreOfKey, GetsNothing, IsExcluded, IsFirst, IsKeptWrite, IsLeft, IsLook};
+ghost use Rattle.log_choices.specs.ForcedSteps.{IsPast, IsPlan, IsReplacing, look_by};
 ghost use Rattle.log_choices.specs.declared.forced_kept.Delete.{Delete as Deleted};
 ghost use Rattle.log_choices.specs.declared.forced_kept.Kept.{Kept as Written};
 
@@ -13,7 +14,7 @@ use crate::Seen;
 use crate::forced_kept::{Delete, Kept};
 use crate::forced_pasts::precedes;
 use crate::forced_plan::{Plan, is_started};
-use log_events::EventLog;
+use crate::timed::Timed;
 use std::alloc::{AllocError, Global};
 
 /// A read that got nothing.
@@ -22,6 +23,8 @@ pub(crate) struct NullRead {
     pub(crate) client: u32,
     /// The place of its begin.
     pub(crate) place: u32,
+    /// The place of its end.
+    pub(crate) end: u32,
     pub(crate) key: u32,
 }
 
@@ -34,78 +37,103 @@ pub(crate) enum Left {
 }
 
 impl Plan {
-    /// What a read that got nothing must have seen, by what is known to come before it: the start or a delete that alone is left, or some
-    /// delete where nothing is left. `None` where more than one candidate is left, and where no delete names the key.
+    /// What a read that got nothing must have seen, by what is known to come before it: the start or a delete that alone is left, or any of
+    /// them where nothing is left. `None` where more than one candidate is left, and where no delete names the key.
     ///
     /// Fails for want of memory alone. O(k log n + d (k + log n)) for n writes, k clients and d deletes of the key.
     pub(crate) fn look(
         &self,
         alloc: Global,
-        log: &EventLog,
+        timed: Timed<'_>,
         read: NullRead,
         past: &[u32],
     ) -> Result<Option<Seen>, AllocError>
-        requires plan { IsPlan log.now self.now }
-        requires read { GetsNothing log.now read }
-        requires past { IsPast log.now past.now read.place }
-        ensures { IfOk result (IsLook log.now read.place) }
+        requires plan { IsPlan timed.in_time timed.log.now self.now }
+        requires read { GetsNothing timed.log.now read }
+        requires past { IsPast timed.in_time timed.log.now past.now read.place }
+        ensures { IfOk result (IsLook timed.in_time timed.log.now read.place) }
     {
         let deletes = self.deletes_of(read.key);
         if deletes.is_empty() {
             return Ok(None);
         }
-        let replacing = self.replacing(alloc, log, read, past)?;
-        let left = self.left_of(log, deletes, read, &replacing);
-        let is_start_left = self.is_start_left(log, read, &replacing);
-        Ok(look_of(left, is_start_left, deletes[0]))
+        let replacing = self.replacing(alloc, timed, read, past)?;
+        let left = self.left_of(timed, deletes, read, &replacing);
+        let is_start_left = self.is_start_left(timed, read, &replacing);
+        let first = first_possible(timed, deletes, read);
+        Ok(look_of(left, is_start_left, first))
     }
 
     /// Whether a read can have seen the start: the key has none, and no write or delete of the key comes before the read. O(log n) for n
     /// starts.
-    fn is_start_left(&self, log: &EventLog, read: NullRead, replacing: &[u32]) -> bool
-        requires plan { IsPlan log.now self.now }
-        requires read { GetsNothing log.now read }
-        requires replacing { All (IsReplacing log.now self.now.writes.items read.key read.place) replacing.now }
-        ensures left { IsTrue result → (k v : ℕ) → ¬ IsAt log.now k (Starts read.key v) }
-        ensures out { result ≡ false → (p : ℕ) → BeginsKeptDelete log.now read.key p → ((k v : ℕ) → ¬ IsAt log.now k (Starts read.key v))
-            → IsOut false log.now read.place None }
+    fn is_start_left(&self, timed: Timed<'_>, read: NullRead, replacing: &[u32]) -> bool
+        requires plan { IsPlan timed.in_time timed.log.now self.now }
+        requires read { GetsNothing timed.log.now read }
+        requires replacing { All (IsReplacing timed.in_time timed.log.now self.now.writes.items read.key read.place) replacing.now }
+        ensures left { IsTrue result → (k v : ℕ) → ¬ IsAt timed.log.now k (Starts read.key v) }
+        ensures out { result ≡ false → (p : ℕ) → BeginsKeptDelete timed.log.now read.key p → ((k v : ℕ) → ¬ IsAt timed.log.now k (Starts read.key v))
+            → IsOut timed.in_time timed.log.now read.place None }
     {
         if !replacing.is_empty() {
             return false;
         }
-        !is_started(log, read.key)
+        !is_started(timed.log, read.key)
     }
 
-    /// For each client its last write or delete of the key that is known to come before a read, by its number.
+    /// For each client its last write or delete of the key that is known to come before a read, by its number, and what is known last of the
+    /// client, if it is one.
     ///
     /// Fails for want of memory alone. O(k log n) for n writes and k clients.
     fn replacing(
         &self,
         alloc: Global,
-        log: &EventLog,
+        timed: Timed<'_>,
         read: NullRead,
         past: &[u32],
     ) -> Result<Vec<u32>, AllocError>
-        requires plan { IsPlan log.now self.now }
-        requires past { IsPast log.now past.now read.place }
-        ensures { IfOk result (λ numbers. All (IsReplacing log.now self.now.writes.items read.key read.place) numbers.items) }
+        requires plan { IsPlan timed.in_time timed.log.now self.now }
+        requires past { IsPast timed.in_time timed.log.now past.now read.place }
+        ensures { IfOk result (λ numbers. All (IsReplacing timed.in_time timed.log.now self.now.writes.items read.key read.place) numbers.items) }
     {
         let mut numbers = Vec::new(alloc);
-        for client in 0..log.clients() {
-            if let Some(number) = self.last_before(read.key, client, past)
-                && self.replaces(log, number, read, past)
-            {
-                numbers.push(number)?;
-            }
+        for client in 0..timed.log.clients() {
+            let last = self.last_before(read.key, client, past);
+            self.add_replacing(timed, last, read, past, &mut numbers)?;
+            let known = self.last_known(client, past);
+            self.add_replacing(timed, known, read, past, &mut numbers)?;
         }
         Ok(numbers)
     }
 
+    /// Puts after the numbers that of a write, if it is of the key and known to come before a read.
+    ///
+    /// Fails for want of memory alone.
+    fn add_replacing(
+        &self,
+        timed: Timed<'_>,
+        number: Option<u32>,
+        read: NullRead,
+        past: &[u32],
+        numbers: &mut Vec<u32>,
+    ) -> Result<(), AllocError>
+        requires plan { IsPlan timed.in_time timed.log.now self.now }
+        requires past { IsPast timed.in_time timed.log.now past.now read.place }
+        requires numbers { All (IsReplacing timed.in_time timed.log.now self.now.writes.items read.key read.place) numbers.old.items }
+        ensures { OnOk result (All (IsReplacing timed.in_time timed.log.now self.now.writes.items read.key read.place) numbers.new.items) }
+    {
+        if let Some(number) = number
+            && self.replaces(timed, number, read, past)
+        {
+            numbers.push(number)?;
+        }
+        Ok(())
+    }
+
     /// Whether a number is that of a write of the key that is known to come before a read, by what comes before the read.
-    fn replaces(&self, log: &EventLog, number: u32, read: NullRead, past: &[u32]) -> bool
-        requires plan { IsPlan log.now self.now }
-        requires past { IsPast log.now past.now read.place }
-        ensures { IsTrue result → IsReplacing log.now self.now.writes.items read.key read.place number }
+    fn replaces(&self, timed: Timed<'_>, number: u32, read: NullRead, past: &[u32]) -> bool
+        requires plan { IsPlan timed.in_time timed.log.now self.now }
+        requires past { IsPast timed.in_time timed.log.now past.now read.place }
+        ensures { IsTrue result → IsReplacing timed.in_time timed.log.now self.now.writes.items read.key read.place number }
     {
         match self.writes.get(number as usize) {
             Some(write) => write.key == read.key && precedes(write, past),
@@ -114,16 +142,22 @@ impl Plan {
     }
 
     /// Which of some deletes of the key are left of a read, where these writes and deletes of the key come before it.
-    fn left_of(&self, log: &EventLog, deletes: &[Delete], read: NullRead, replacing: &[u32]) -> Left
-        requires plan { IsPlan log.now self.now }
-        requires read { GetsNothing log.now read }
+    fn left_of(
+        &self,
+        timed: Timed<'_>,
+        deletes: &[Delete],
+        read: NullRead,
+        replacing: &[u32],
+    ) -> Left
+        requires plan { IsPlan timed.in_time timed.log.now self.now }
+        requires read { GetsNothing timed.log.now read }
         requires deletes { AreOfKey self.now.deletes.items read.key deletes.now }
-        requires replacing { All (IsReplacing log.now self.now.writes.items read.key read.place) replacing.now }
-        ensures { IsLeft log.now read.place deletes.now result }
+        requires replacing { All (IsReplacing timed.in_time timed.log.now self.now.writes.items read.key read.place) replacing.now }
+        ensures { IsLeft timed.in_time timed.log.now read.place read.end deletes.now result }
     {
         let mut left = Left::NoneLeft;
         for delete in deletes {
-            if !self.is_out(log, *delete, read, replacing) {
+            if !self.is_excluded(timed, *delete, read, replacing) {
                 match left {
                     Left::NoneLeft => left = Left::OneLeft(*delete),
                     _ => return Left::MoreLeft,
@@ -133,28 +167,50 @@ impl Plan {
         left
     }
 
-    /// Whether a read can't have seen a delete: the delete comes after the read, or one of these writes and deletes has replaced it.
-    fn is_out(&self, log: &EventLog, delete: Delete, read: NullRead, replacing: &[u32]) -> bool
-        requires plan { IsPlan log.now self.now }
-        requires read { GetsNothing log.now read }
+    /// Whether a read can't have seen a delete: it is out, or begins after the read had ended.
+    fn is_excluded(
+        &self,
+        timed: Timed<'_>,
+        delete: Delete,
+        read: NullRead,
+        replacing: &[u32],
+    ) -> bool
+        requires plan { IsPlan timed.in_time timed.log.now self.now }
+        requires read { GetsNothing timed.log.now read }
         requires listed { Contains self.now.deletes.items delete }
         requires key { delete.key ≡ read.key }
-        requires replacing { All (IsReplacing log.now self.now.writes.items read.key read.place) replacing.now }
-        ensures { IsTrue result → IsOut false log.now read.place (Some delete.place) }
+        requires replacing { All (IsReplacing timed.in_time timed.log.now self.now.writes.items read.key read.place) replacing.now }
+        ensures excluded { IsTrue result → IsExcluded timed.in_time timed.log.now read.place read.end delete.place }
+        ensures possible { result ≡ false → IsTrue timed.in_time → delete.place < read.end }
+    {
+        if !is_possible(timed, delete, read) {
+            return true;
+        }
+        self.is_out(timed, delete, read, replacing)
+    }
+
+    /// Whether a read can't have seen a delete: the delete comes after the read, or one of these writes and deletes has replaced it.
+    fn is_out(&self, timed: Timed<'_>, delete: Delete, read: NullRead, replacing: &[u32]) -> bool
+        requires plan { IsPlan timed.in_time timed.log.now self.now }
+        requires read { GetsNothing timed.log.now read }
+        requires listed { Contains self.now.deletes.items delete }
+        requires key { delete.key ≡ read.key }
+        requires replacing { All (IsReplacing timed.in_time timed.log.now self.now.writes.items read.key read.place) replacing.now }
+        ensures { IsTrue result → IsOut timed.in_time timed.log.now read.place (Some delete.place) }
     {
         match self.write_at(delete.place) {
-            Some(write) => follows(log, write, read) || self.is_replaced(log, write, replacing),
+            Some(write) => follows(timed, write, read) || self.is_replaced(timed, write, replacing),
             None => false,
         }
     }
 
     /// Whether one of some writes and deletes, by their numbers, is known to come after a write.
-    fn is_replaced(&self, log: &EventLog, write: &Kept, by: &[u32]) -> bool
-        requires plan { IsPlan log.now self.now }
-        requires write { IsKeptWrite log.now write.now }
+    fn is_replaced(&self, timed: Timed<'_>, write: &Kept, by: &[u32]) -> bool
+        requires plan { IsPlan timed.in_time timed.log.now self.now }
+        requires write { IsKeptWrite timed.in_time timed.log.now write.now }
         ensures { IsTrue result → (number : ℕ) × (w : Written) × Contains by.now number
             × (slice_get self.now.writes.items number ≡ Some w) × (w.place ≢ write.now.place)
-            × Comes false log.now write.now.place w.place }
+            × Comes timed.in_time timed.log.now write.now.place w.place }
     {
         for number in by {
             if let Some(other) = self.writes.get(*number as usize)
@@ -168,24 +224,49 @@ impl Plan {
     }
 }
 
-/// What a read that got nothing must have seen, by which deletes are left, whether the start is, and the first delete of the key.
-fn look_of(left: Left, is_start_left: bool, first: Delete) -> Option<Seen>
+/// Whether a delete begins before a read had ended, where that counts.
+fn is_possible(timed: Timed<'_>, delete: Delete, read: NullRead) -> bool
+    ensures possible { IsTrue result → IsTrue timed.in_time → delete.place < read.end }
+    ensures late { result ≡ false → IsTrue timed.in_time × (read.end ≤ delete.place) }
+{
+    !timed.in_time || delete.place < read.end
+}
+
+/// The first of the deletes of a key that begins before a read had ended, where that counts.
+fn first_possible(timed: Timed<'_>, deletes: &[Delete], read: NullRead) -> Option<Delete>
+    ensures { IsFirst timed.in_time read.end deletes.now result }
+{
+    for delete in deletes {
+        if is_possible(timed, *delete, read) {
+            return Some(*delete);
+        }
+    }
+    None
+}
+
+/// What a read that got nothing must have seen, by which deletes are left, whether the start is, and the first delete that is possible.
+fn look_of(left: Left, is_start_left: bool, first: Option<Delete>) -> Option<Seen>
     ensures { result ≡ look_by left is_start_left first }
 {
     match left {
-        Left::NoneLeft if is_start_left => Some(Seen::Start),
-        Left::NoneLeft => Some(Seen::Delete(first.place)),
+        Left::NoneLeft => match first {
+            Some(delete) if !is_start_left => Some(Seen::Delete(delete.place)),
+            _ => Some(Seen::Start),
+        },
         Left::OneLeft(delete) if !is_start_left => Some(Seen::Delete(delete.place)),
         _ => None,
     }
 }
 
 /// Whether a write or delete is known to come after a read.
-fn follows(log: &EventLog, write: &Kept, read: NullRead) -> bool
-    requires write { IsKeptWrite log.now write.now }
-    requires read { GetsNothing log.now read }
-    ensures { IsTrue result → Comes false log.now read.place write.now.place }
+fn follows(timed: Timed<'_>, write: &Kept, read: NullRead) -> bool
+    requires write { IsKeptWrite timed.in_time timed.log.now write.now }
+    requires read { GetsNothing timed.log.now read }
+    ensures { IsTrue result → Comes timed.in_time timed.log.now read.place write.now.place }
 {
+    if write.client == read.client && write.place > read.place {
+        return true;
+    }
     let past = write.past.as_slice();
     let client = read.client as usize;
     if client >= past.len() || past[client] <= read.place {

@@ -1,6 +1,6 @@
 //! A pass over the calls of a log that finds what is forced.
 
-ghost use Rattle.std.specs.Prelude.{◌≡◌, ◌↔◌, ◌⊎◌, ◌<◌, ◌≤◌, ◌+◌, [], ℕ, All, Contains, IfOk, IsTrue, OnOk, Some, slice_get, vec_len};
+ghost use Rattle.std.specs.Prelude.{◌≡◌, ◌↔◌, ◌⊎◌, ◌<◌, ◌≤◌, ◌+◌, ◌*◌, [], ℕ, All, Contains, IfOk, IfSome, IsTrue, OnOk, Some, slice_get, vec_len};
 ghost use Rattle.log_events.specs.declared.event.ClientCall.TheVariants.{ReadOf};
 ghost use Rattle.log_events.specs.declared.event.Ending.TheVariants.{Got, GotNothing, Failed, Lost};
 ghost use Rattle.log_events.specs.Events.{run_calls};
@@ -12,6 +12,7 @@ use crate::forced_kept::Kept;
 use crate::forced_looks::NullRead;
 use crate::forced_pasts::{follow, raise};
 use crate::forced_plan::Plan;
+use crate::timed::Timed;
 use log_events::{ClientCall, Ending, EventLog, LoggedCall};
 use model_objects::Table;
 use std::alloc::{AllocError, Global};
@@ -43,24 +44,24 @@ impl Found {
 /// Fails for want of memory alone. O(n k) for n calls and k clients, and for each null read what [`Plan::look`] takes.
 pub(crate) fn pass(
     alloc: Global,
-    log: &EventLog,
+    timed: Timed<'_>,
     plan: &mut Plan,
     earlier: &Table<Seen>,
 ) -> Result<Found, AllocError>
-    requires plan { IsPlan log.now plan.old }
-    requires earlier { AreForcedReads log.now earlier.now }
-    ensures plan { OnOk result (IsPlan log.now plan.new) }
-    ensures found { IfOk result (λ found. AreForcedReads log.now found.seen) }
+    requires plan { IsPlan timed.in_time timed.log.now plan.old }
+    requires earlier { AreForcedReads timed.in_time timed.log.now earlier.now }
+    ensures plan { OnOk result (IsPlan timed.in_time timed.log.now plan.new) }
+    ensures found { IfOk result (λ found. AreForcedReads timed.in_time timed.log.now found.seen) }
 {
-    let mut pasts = nothing_known(alloc, log)?;
+    let mut pasts = nothing_known(alloc, timed)?;
     let mut found = Found::nothing(alloc);
     found.has_grown = false;
-    for call in log.calls() {
+    for call in timed.log.calls() {
         let client = call.client() as usize;
         if client < pasts.len() {
             advance(
                 alloc,
-                log,
+                timed,
                 plan,
                 call,
                 &mut pasts[client],
@@ -75,10 +76,10 @@ pub(crate) fn pass(
 /// For each client that nothing is known to come before its first call.
 ///
 /// Fails for want of memory alone. O(k^2) for k clients.
-fn nothing_known(alloc: Global, log: &EventLog) -> Result<Vec<Vec<u32>>, AllocError>
-    ensures { IfOk result (λ pasts. (b : ℕ) → ArePasts log.now b pasts.items) }
+fn nothing_known(alloc: Global, timed: Timed<'_>) -> Result<Vec<Vec<u32>>, AllocError>
+    ensures { IfOk result (λ pasts. (b : ℕ) → ArePasts timed.in_time timed.log.now b pasts.items) }
 {
-    let clients = log.clients() as usize;
+    let clients = timed.log.clients() as usize;
     let mut pasts = Vec::new(alloc);
     for _ in 0..clients {
         pasts.push(vec![in alloc; 0; clients]?)?;
@@ -91,39 +92,39 @@ fn nothing_known(alloc: Global, log: &EventLog) -> Result<Vec<Vec<u32>>, AllocEr
 /// Fails for want of memory alone.
 fn advance(
     alloc: Global,
-    log: &EventLog,
+    timed: Timed<'_>,
     plan: &mut Plan,
     call: &LoggedCall,
     past: &mut [u32],
     earlier: &Table<Seen>,
     found: &mut Found,
 ) -> Result<(), AllocError>
-    requires plan { IsPlan log.now plan.old }
-    requires call { Contains (run_calls log.now) call.now }
-    requires past { IsPastFrom log.now call.now.client call.now.place past.old }
-    requires earlier { AreForcedReads log.now earlier.now }
-    requires found { AreFoundBelow log.now call.now.place found.old.seen }
-    ensures plan { OnOk result (IsPlan log.now plan.new) }
-    ensures past { OnOk result (IsPastFrom log.now call.now.client (call.now.place + 1) past.new) }
-    ensures found { OnOk result (AreFoundBelow log.now (call.now.place + 1) found.new.seen) }
+    requires plan { IsPlan timed.in_time timed.log.now plan.old }
+    requires call { Contains (run_calls timed.log.now) call.now }
+    requires past { IsPastFrom timed.in_time timed.log.now call.now.client call.now.place past.old }
+    requires earlier { AreForcedReads timed.in_time timed.log.now earlier.now }
+    requires found { AreFoundBelow timed.in_time timed.log.now call.now.place found.old.seen }
+    ensures plan { OnOk result (IsPlan timed.in_time timed.log.now plan.new) }
+    ensures past { OnOk result (IsPastFrom timed.in_time timed.log.now call.now.client (call.now.place + 1) past.new) }
+    ensures found { OnOk result (AreFoundBelow timed.in_time timed.log.now (call.now.place + 1) found.new.seen) }
 {
     match call.call() {
-        ClientCall::ReadOf(_) => look_back(alloc, log, plan, call, past, earlier, found)?,
-        _ => keep(log, plan, call, past, found)?,
+        ClientCall::ReadOf(_) => look_back(alloc, timed, plan, call, past, earlier, found)?,
+        _ => keep(timed, plan, call, past, found)?,
     }
-    go_past(log, call, past);
+    go_past(timed, call, past);
     Ok(())
 }
 
 /// Adds a call to what comes before the later calls of its client, unless it failed or was lost.
-fn go_past(log: &EventLog, call: &LoggedCall, past: &mut [u32])
-    requires call { Contains (run_calls log.now) call.now }
-    requires here { IsPast log.now past.old call.now.place }
-    requires later { IsPastFrom log.now call.now.client call.now.place past.old ⊎ IsAnswered call.now.ending }
-    ensures { IsPastFrom log.now call.now.client (call.now.place + 1) past.new }
+fn go_past(timed: Timed<'_>, call: &LoggedCall, past: &mut [u32])
+    requires call { Contains (run_calls timed.log.now) call.now }
+    requires here { IsPast timed.in_time timed.log.now past.old call.now.place }
+    requires later { IsPastFrom timed.in_time timed.log.now call.now.client call.now.place past.old ⊎ IsAnswered call.now.ending }
+    ensures { IsPastFrom timed.in_time timed.log.now call.now.client (call.now.place + 1) past.new }
 {
     // It opens the log, so that its calls are known to be small.
-    let _calls = log.calls();
+    let _calls = timed.log.calls();
     if !is_lost_or_failed(call) {
         raise(past, call.client(), call.place());
     }
@@ -141,57 +142,75 @@ fn is_lost_or_failed(call: &LoggedCall) -> bool
 /// Fails for want of memory alone.
 fn look_back(
     alloc: Global,
-    log: &EventLog,
+    timed: Timed<'_>,
     plan: &Plan,
     call: &LoggedCall,
     past: &mut [u32],
     earlier: &Table<Seen>,
     found: &mut Found,
 ) -> Result<(), AllocError>
-    requires plan { IsPlan log.now plan.now }
-    requires call { Contains (run_calls log.now) call.now }
-    requires past { IsPast log.now past.old call.now.place }
-    requires earlier { AreForcedReads log.now earlier.now }
-    requires found { AreFoundBelow log.now call.now.place found.old.seen }
-    ensures past { OnOk result (IsPast log.now past.new call.now.place) }
+    requires plan { IsPlan timed.in_time timed.log.now plan.now }
+    requires call { Contains (run_calls timed.log.now) call.now }
+    requires past { IsPast timed.in_time timed.log.now past.old call.now.place }
+    requires earlier { AreForcedReads timed.in_time timed.log.now earlier.now }
+    requires found { AreFoundBelow timed.in_time timed.log.now call.now.place found.old.seen }
+    ensures past { OnOk result (IsPast timed.in_time timed.log.now past.new call.now.place) }
     ensures unread { OnOk result (past.new ≡ past.old ⊎ IsAnswered call.now.ending) }
-    ensures found { OnOk result (AreFoundBelow log.now (call.now.place + 1) found.new.seen) }
+    ensures found { OnOk result (AreFoundBelow timed.in_time timed.log.now (call.now.place + 1) found.new.seen) }
 {
     // It opens the log, so that its calls are known to be small.
-    let _calls = log.calls();
+    let _calls = timed.log.calls();
     match (call.call(), call.ending()) {
         (ClientCall::ReadOf(key), Some(Ending::Got(value))) => {
-            follow_source(log, plan, call, key, value, past);
+            follow_source(timed, plan, call, key, value, past);
         }
         (ClientCall::ReadOf(key), Some(Ending::GotNothing)) => {
-            let read = NullRead {
-                client: call.client(),
-                place: call.place(),
-                key,
-            };
-            let seen = seen_by(alloc, log, plan, read, past, earlier)?;
-            put_down(log, plan, read, seen, past, found)?;
+            if let Some(read) = null_read(timed.log, call, key) {
+                let seen = seen_by(alloc, timed, plan, read, past, earlier)?;
+                put_down(timed, plan, read, seen, past, found)?;
+            }
         }
         _ => {}
     }
     Ok(())
 }
 
+/// A read that got nothing, with the place of its end. O(log n) for n calls.
+fn null_read(log: &EventLog, call: &LoggedCall, key: u32) -> Option<NullRead>
+    requires call { Contains (run_calls log.now) call.now }
+    requires read { call.now.call ≡ ReadOf key }
+    requires nothing { call.now.ending ≡ Some GotNothing }
+    ensures { IfSome result (λ read. GetsNothing log.now read × (read.place ≡ call.now.place)) }
+{
+    let calls = log.calls();
+    let number = calls.partition_point(|other| other.place() < call.place());
+    if calls.get(number)?.place() != call.place() {
+        return None;
+    }
+    let end = log.ended_at(u32::try_from(number).ok()?)?;
+    Some(NullRead {
+        client: call.client(),
+        place: call.place(),
+        end,
+        key,
+    })
+}
+
 /// Adds to what comes before a read the write whose value it got.
 fn follow_source(
-    log: &EventLog,
+    timed: Timed<'_>,
     plan: &Plan,
     call: &LoggedCall,
     key: u32,
     value: u32,
     past: &mut [u32],
 )
-    requires plan { IsPlan log.now plan.now }
-    requires call { Contains (run_calls log.now) call.now }
+    requires plan { IsPlan timed.in_time timed.log.now plan.now }
+    requires call { Contains (run_calls timed.log.now) call.now }
     requires read { call.now.call ≡ ReadOf key }
     requires got { call.now.ending ≡ Some (Got value) }
-    requires past { IsPast log.now past.old call.now.place }
-    ensures { IsPast log.now past.new call.now.place }
+    requires past { IsPast timed.in_time timed.log.now past.old call.now.place }
+    ensures { IsPast timed.in_time timed.log.now past.new call.now.place }
 {
     if let Some(write) = plan.write_of(key, value) {
         follow(past, write);
@@ -203,21 +222,21 @@ fn follow_source(
 /// Fails for want of memory alone.
 fn seen_by(
     alloc: Global,
-    log: &EventLog,
+    timed: Timed<'_>,
     plan: &Plan,
     read: NullRead,
     past: &[u32],
     earlier: &Table<Seen>,
 ) -> Result<Option<Seen>, AllocError>
-    requires plan { IsPlan log.now plan.now }
-    requires read { GetsNothing log.now read }
-    requires past { IsPast log.now past.now read.place }
-    requires earlier { AreForcedReads log.now earlier.now }
-    ensures { IfOk result (IsLook log.now read.place) }
+    requires plan { IsPlan timed.in_time timed.log.now plan.now }
+    requires read { GetsNothing timed.log.now read }
+    requires past { IsPast timed.in_time timed.log.now past.now read.place }
+    requires earlier { AreForcedReads timed.in_time timed.log.now earlier.now }
+    ensures { IfOk result (IsLook timed.in_time timed.log.now read.place) }
 {
     match earlier.get(read.place) {
         Some(seen) => Ok(Some(*seen)),
-        None => plan.look(alloc, log, read, past),
+        None => plan.look(alloc, timed, read, past),
     }
 }
 
@@ -225,20 +244,20 @@ fn seen_by(
 ///
 /// Fails for want of memory alone.
 fn put_down(
-    log: &EventLog,
+    timed: Timed<'_>,
     plan: &Plan,
     read: NullRead,
     seen: Option<Seen>,
     past: &mut [u32],
     found: &mut Found,
 ) -> Result<(), AllocError>
-    requires plan { IsPlan log.now plan.now }
-    requires read { GetsNothing log.now read }
-    requires seen { IsLook log.now read.place seen }
-    requires past { IsPast log.now past.old read.place }
-    requires found { AreFoundBelow log.now read.place found.old.seen }
-    ensures past { OnOk result (IsPast log.now past.new read.place) }
-    ensures found { OnOk result (AreFoundBelow log.now (read.place + 1) found.new.seen) }
+    requires plan { IsPlan timed.in_time timed.log.now plan.now }
+    requires read { GetsNothing timed.log.now read }
+    requires seen { IsLook timed.in_time timed.log.now read.place seen }
+    requires past { IsPast timed.in_time timed.log.now past.old read.place }
+    requires found { AreFoundBelow timed.in_time timed.log.now read.place found.old.seen }
+    ensures past { OnOk result (IsPast timed.in_time timed.log.now past.new read.place) }
+    ensures found { OnOk result (AreFoundBelow timed.in_time timed.log.now (read.place + 1) found.new.seen) }
 {
     if let Some(seen) = seen {
         found.seen.push(read.place, seen)?;
@@ -255,15 +274,15 @@ fn put_down(
 ///
 /// Fails for want of memory alone. O(k + log n) for n writes and k clients.
 fn keep(
-    log: &EventLog,
+    timed: Timed<'_>,
     plan: &mut Plan,
     call: &LoggedCall,
     past: &[u32],
     found: &mut Found,
 ) -> Result<(), AllocError>
-    requires plan { IsPlan log.now plan.old }
-    requires past { IsPast log.now past.now call.now.place }
-    ensures plan { OnOk result (IsPlan log.now plan.new) }
+    requires plan { IsPlan timed.in_time timed.log.now plan.old }
+    requires past { IsPast timed.in_time timed.log.now past.now call.now.place }
+    ensures plan { OnOk result (IsPlan timed.in_time timed.log.now plan.new) }
     ensures found { found.new.seen ≡ found.old.seen }
 {
     let number = plan.number_at(call.place());

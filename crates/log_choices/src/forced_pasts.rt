@@ -1,6 +1,6 @@
 //! What comes before a call, as far as it is known: for each client one more than the place of a call of it, or 0.
 
-ghost use Rattle.std.specs.Prelude.{◌≡◌, ◌≢◌, ◌<◌, ◌+◌, ◌^◌, ℕ, List, IsTrue, false, slice_index};
+ghost use Rattle.std.specs.Prelude.{◌≡◌, ◌≢◌, ◌<◌, ◌+◌, ◌^◌, ℕ, Bool, List, IsTrue, false, slice_index};
 ghost use Rattle.log_events.specs.declared.event.Event.{Event as Happened};
 ghost use Rattle.log_choices.specs.Forced.{Comes};
 ghost use Rattle.log_choices.specs.ForcedSteps.{IsKeptWrite, IsPast};
@@ -32,8 +32,8 @@ fn join(past: &mut [u32], other: &[u32])
 /// Adds to what comes before a call a write or delete that comes before it.
 pub(crate) fn follow(past: &mut [u32], write: &Kept)
     requires { write.now.place + 1 < 2 ^ 32 }
-    ensures { (es : List Happened) (q : ℕ) → IsKeptWrite es write.now → Comes false es write.now.place q → IsPast es past.old q
-        → IsPast es past.new q }
+    ensures { (in_time : Bool) (es : List Happened) (q : ℕ) → IsKeptWrite in_time es write.now → Comes in_time es write.now.place q → IsPast in_time es past.old q
+        → IsPast in_time es past.new q }
 {
     join(past, &write.past);
     raise(past, write.client, write.place);
@@ -41,8 +41,8 @@ pub(crate) fn follow(past: &mut [u32], write: &Kept)
 
 /// Whether a write or delete is known to come before a call, by what comes before the call.
 pub(crate) fn precedes(write: &Kept, past: &[u32]) -> bool
-    ensures { (es : List Happened) (q : ℕ) → IsKeptWrite es write.now → IsPast es past.now q → IsTrue result
-        → Comes false es write.now.place q }
+    ensures { (in_time : Bool) (es : List Happened) (q : ℕ) → IsKeptWrite in_time es write.now → IsPast in_time es past.now q → IsTrue result
+        → Comes in_time es write.now.place q }
 {
     let client = write.client as usize;
     if client >= past.len() || past[client] <= write.place {

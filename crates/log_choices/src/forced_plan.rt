@@ -1,6 +1,6 @@
 //! What the pass that finds what is forced looks up: the writes and deletes of a log, by key and client, and by value.
 
-ghost use Rattle.std.specs.Prelude.{◌≡◌, ◌≤◌, ◌↔◌, ℕ, Contains, IfOk, IfSome, IsSortedByKey, IsTrue, Some};
+ghost use Rattle.std.specs.Prelude.{◌≡◌, ◌≤◌, ◌↔◌, ℕ, Bool, Contains, IfOk, IfSome, IsSortedByKey, IsTrue, Some};
 ghost use Rattle.std.specs.Ordering.{nat_cmp};
 ghost use Rattle.log_events.specs.Events.{IsAt};
 ghost use Rattle.log_events.specs.declared.event.Event.TheVariants.{Starts};
@@ -12,7 +12,7 @@ use crate::forced_kept::{Delete, Kept, kept_deletes, kept_writes};
 use log_events::EventLog;
 use std::alloc::{AllocError, Global};
 
-/// A write or a delete that did not fail, to be found by its key, its client and the place of its begin.
+/// A write or a delete that neither failed nor was lost, to be found by its key, its client and the place of its begin.
 #[derive(Clone, Copy)]
 struct Spot {
     key: u32,
@@ -49,7 +49,7 @@ impl Plan {
     ///
     /// Fails for want of memory alone.
     pub(crate) fn of(alloc: Global, log: &EventLog) -> Result<Plan, AllocError>
-        ensures { IfOk result (IsPlan log.now) }
+        ensures { IfOk result (λ plan. (in_time : Bool) → IsPlan in_time log.now plan) }
     {
         let writes = kept_writes(alloc, log)?;
         let spots = spots_of(alloc, &writes)?;
@@ -63,7 +63,8 @@ impl Plan {
         })
     }
 
-    /// The last write or delete of a key by a client among the calls that come before a call, by its number. O(log n) for n writes.
+    /// The last write or delete of a key by a client among the calls that come before a call, by its number, but for lost ones. O(log n) for
+    /// n writes.
     pub(crate) fn last_before(&self, key: u32, client: u32, past: &[u32]) -> Option<u32> {
         let place = past.get(client as usize).copied()?;
         let at = self.spots.partition_point(|spot| (spot.key, spot.client, spot.place)
@@ -77,6 +78,14 @@ impl Plan {
         } else {
             None
         }
+    }
+
+    /// The number of the write or delete that is the last call of a client which is known to come before a call, if it is one; else any
+    /// number. O(log n) for n writes.
+    pub(crate) fn last_known(&self, client: u32, past: &[u32]) -> Option<u32> {
+        let link = past.get(client as usize).copied()?;
+        let place = link.checked_sub(1)?;
+        u32::try_from(self.number_at(place)).ok()
     }
 
     /// The write of a value to a key. O(log n) for n writes.
@@ -140,17 +149,19 @@ pub(crate) fn is_started(log: &EventLog, key: u32) -> bool
     }
 }
 
-/// The spots of writes, by key, client and place.
+/// The spots of writes that were not lost, by key, client and place.
 fn spots_of(alloc: Global, writes: &[Kept]) -> Result<Vec<Spot>, AllocError> {
     let mut spots = Vec::new(alloc);
     let mut number = 0u32;
     for write in writes {
-        spots.push(Spot {
-            key: write.key,
-            client: write.client,
-            place: write.place,
-            number,
-        })?;
+        if !write.is_lost {
+            spots.push(Spot {
+                key: write.key,
+                client: write.client,
+                place: write.place,
+                number,
+            })?;
+        }
         number = number.saturating_add(1);
     }
     spots.sort_unstable_by_key(|spot| (spot.key, spot.client, spot.place));

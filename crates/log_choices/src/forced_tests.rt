@@ -38,7 +38,7 @@ fn log_of(alloc: Global, calls: &[Row]) -> Option<EventLog> {
 
 /// What is forced of the read at a place.
 fn forced_at(alloc: Global, log: &EventLog, place: u32) -> Option<Seen> {
-    let forced = forced_reads(alloc, log).ok()?;
+    let forced = forced_reads(alloc, log, false).ok()?;
     for (read, seen) in forced.entries() {
         if *read == place {
             return Some(*seen);

@@ -31,6 +31,7 @@ mod seen;
 mod sessions;
 #[cfg(test)]
 mod tests;
+mod timed;
 
 pub use chosen_history::{history_by, no_choice_leaves_null_reads_out, origins_by};
 pub use forced::forced_reads;

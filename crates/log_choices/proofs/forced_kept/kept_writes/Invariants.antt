@@ -4,4 +4,4 @@ use Rattle.log_choices.proofs.forced_kept.kept_writes.Given as goal
 
 -- the writes so far
 abbrev pub invariant-loop-call : goal.invariant-loop-call
-invariant-loop-call l = All (IsKeptWrite l.log) l.writes.items
+invariant-loop-call l = All (IsKeptWrite l.in_time l.log) l.writes.items

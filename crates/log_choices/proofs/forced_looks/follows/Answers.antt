@@ -5,4 +5,4 @@ use Rattle.log_choices.proofs.forced_looks.follows.Goals as goal
 pub returns : goal.returns
 returns c =
     let below = subst (λ (l : List ℕ). c.args.read.place < get_or l c.args.read.client 0) c.as_slice-past.ensures.value c.if-past-client.false in
-    λ _. read-precedes c.args.log.now c.args.read c.requires.read c.args.write.now c.requires.write below
+    λ _. read-precedes c.args.timed.in_time c.args.timed.log.now c.args.read c.requires.read c.args.write.now c.requires.write below

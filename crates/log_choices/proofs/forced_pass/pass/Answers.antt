@@ -11,12 +11,12 @@ use Rattle.log_choices.proofs.forced_pass.pass.Goals.{then-client-len+in_ok-adva
 pub loop-call-init : goal.loop-call-init
 loop-call-init c =
     let pasts = c.in_ok-pasts.pasts.items in
-    subst (λ (t : List (ℕ × Seen)). IsPassed c.args.log.now 0 c.args.plan.now pasts t) (sym c.nothing-found.ensures)
-    (passed-first c.args.log.now c.args.plan.now pasts c.requires.plan c.in_ok-pasts.ensures)
+    subst (λ (t : List (ℕ × Seen)). IsPassed c.args.timed.in_time c.args.timed.log.now 0 c.args.plan.now pasts t) (sym c.nothing-found.ensures)
+    (passed-first c.args.timed.in_time c.args.timed.log.now c.args.plan.now pasts c.requires.plan c.in_ok-pasts.ensures)
 
 pub advance-requires-clause-past : goal.advance-requires-clause-past
 advance-requires-clause-past c =
-    let es = c.args.log.now in
+    let es = c.args.timed.log.now in let in_time = c.args.timed.in_time in
     let a = c.call-item.result in
     let i = c.loop-call.call-index in
     let k = c.client-client.result in
@@ -24,10 +24,10 @@ advance-requires-clause-past c =
     let at = subst (λ (l : List Call). slice_get l i ≡ Some a) c.calls-call-items.ensures.exact
     (get-at c.calls-call-items.result.now i a c.loop-call-test.true c.call-item.is) in
     let inside : k < length pasts = let ok = c.loop-call.pasts.ok in omega arith in
-    let own = passed-past es i k c.loop-call.plan pasts c.loop-call.found.seen a c.index_mut.result.now c.loop-call.invariant at
+    let own = passed-past in_time es i k c.loop-call.plan pasts c.loop-call.found.seen a c.index_mut.result.now c.loop-call.invariant at
     c.client-client.ensures inside in
-    subst (IsPastFrom es a.client a.place) (sym c.deref_mut.ensures.value)
-    (subst (λ (v : Vec ℕ Global). IsPastFrom es a.client a.place v.items) (sym c.index_mut.ensures.value) own)
+    subst (IsPastFrom in_time es a.client a.place) (sym c.deref_mut.ensures.value)
+    (subst (λ (v : Vec ℕ Global). IsPastFrom in_time es a.client a.place v.items) (sym c.index_mut.ensures.value) own)
 
 pub advance-requires-clause-found : goal.advance-requires-clause-found
 advance-requires-clause-found c =
@@ -35,11 +35,11 @@ advance-requires-clause-found c =
     let i = c.loop-call.call-index in
     let at = subst (λ (l : List Call). slice_get l i ≡ Some a) c.calls-call-items.ensures.exact
     (get-at c.calls-call-items.result.now i a c.loop-call-test.true c.call-item.is) in
-    passed-found c.args.log.now i c.loop-call.plan c.loop-call.pasts.items c.loop-call.found.seen a c.loop-call.invariant at
+    passed-found c.args.timed.in_time c.args.timed.log.now i c.loop-call.plan c.loop-call.pasts.items c.loop-call.found.seen a c.loop-call.invariant at
 
 pub loop-call-preserved : goal.loop-call-preserved
 loop-call-preserved c =
-    let es = c.args.log.now in
+    let es = c.args.timed.log.now in let in_time = c.args.timed.in_time in
     let a = c.call-item.result in
     let i = c.loop-call.call-index in
     let k = c.client-client.result in
@@ -55,8 +55,8 @@ loop-call-preserved c =
           let long : length new ≡ old.len = omega arith in
           let whole : take old.len (new ++ drop (length new) old.items) ≡ new = take_at new (drop (length new) old.items) old.len long in
           rw (w.plan-is, w.pasts-is, w.found-is)
-          (passed-next es i k plan w.advance.new.plan pasts _ table w.advance.new.found.seen a c.loop-call.invariant at
+          (passed-next in_time es i k plan w.advance.new.plan pasts _ table w.advance.new.found.seen a c.loop-call.invariant at
           c.client-client.ensures w.in_ok-advance.ensures.plan
-          (subst (IsPastFrom es a.client (a.place + 1)) (sym whole) w.in_ok-advance.ensures.past) w.in_ok-advance.ensures.found)
-      | else-client-len w ↦ rw (w.plan-is, w.pasts-is, w.found-is) (passed-over es i plan pasts table c.loop-call.invariant)
+          (subst (IsPastFrom in_time es a.client (a.place + 1)) (sym whole) w.in_ok-advance.ensures.past) w.in_ok-advance.ensures.found)
+      | else-client-len w ↦ rw (w.plan-is, w.pasts-is, w.found-is) (passed-over in_time es i plan pasts table c.loop-call.invariant)
     ]

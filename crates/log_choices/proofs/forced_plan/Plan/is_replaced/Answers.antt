@@ -8,13 +8,13 @@ use Rattle.log_choices.proofs.forced_plan.Plan.is_replaced.Goals as goal
 
 pub returns-in-loop-number : goal.returns-in-loop-number
 returns-in-loop-number c =
-    let es = c.args.log.now in
+    let es = c.args.timed.log.now in let in_time = c.args.timed.in_time in
     let number = get_or c.args.by.now c.loop-number.number-index 0 in
     let other = c.in-Some.other.now in
     let within = get-at c.deref.result.now number other c.in-Some.ensures.lookup.3.0 c.in-Some.ensures.lookup.1 in
     let at = subst (λ (l : List Kept). slice_get l number ≡ Some other) c.deref.ensures.value within in
-    let kept = all-at (IsKeptWrite es) c.args.self.now.writes.items number other c.requires.plan.writes at in
-    let past = subst (λ (l : List ℕ). IsPast es l other.place) (sym c.deref-in-loop-number.ensures.value) kept.past in λ _. (
+    let kept = all-at (IsKeptWrite in_time es) c.args.self.now.writes.items number other c.requires.plan.writes at in
+    let past = subst (λ (l : List ℕ). IsPast in_time es l other.place) (sym c.deref-in-loop-number.ensures.value) kept.past in λ _. (
       number,
       other,
       Contains-get_or c.args.by.now c.loop-number.number-index 0 c.loop-number-test.true,

@@ -7,9 +7,9 @@ use Rattle.log_choices.proofs.forced_plan.Plan.is_start_left.Goals as goal
 
 pub returns-then-not-is_empty-clause-out : goal.returns-then-not-is_empty-clause-out
 returns-then-not-is_empty-clause-out c =
-    let es = c.args.log.now in
+    let es = c.args.timed.log.now in let in_time = c.args.timed.in_time in
     let numbers = c.args.replacing.now in
     let full : length numbers ≢ 0 = eqb-false (length numbers) 0 (sym c.is_empty.ensures ∙ c.if-not-is_empty.true) in
     let n = get_or numbers 0 0 in
     λ _ p kept _. let (w, at, key, comes) = c.requires.replacing 0 0 (omega arith) in
-    start-out es c.args.read c.requires.read w p kept (all-at (IsKeptWrite es) c.args.self.now.writes.items n w c.requires.plan.writes at) key comes
+    start-out in_time es c.args.read c.requires.read w p kept (all-at (IsKeptWrite in_time es) c.args.self.now.writes.items n w c.requires.plan.writes at) key comes

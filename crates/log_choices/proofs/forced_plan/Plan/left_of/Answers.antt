@@ -22,7 +22,7 @@ is_out-requires-clause-key c =
 
 pub loop-delete-preserved : goal.loop-delete-preserved
 loop-delete-preserved c =
-    let es = c.args.log.now in
+    let es = c.args.timed.log.now in let in_time = c.args.timed.in_time in
     let r = c.args.read.place in
     let deletes = c.args.deletes.now in
     let i = c.loop-delete.delete-index in
@@ -31,8 +31,8 @@ loop-delete-preserved c =
     elim c.if-not-is_out.branch [
       | then-not-is_out+in-NoneLeft w ↦
           rw (take_more deletes i none c.loop-delete-test.true, w.left-is)
-          (left-one es r (take i deletes) d (subst (IsLeft es r (take i deletes)) w.in-NoneLeft.is was))
+          (left-one in_time es r (take i deletes) d (subst (IsLeft in_time es r (take i deletes)) w.in-NoneLeft.is was))
       | else-not-is_out w ↦
           rw (take_more deletes i none c.loop-delete-test.true, w.left-is)
-          (left-out es r (take i deletes) d c.loop-delete.left was (c.is_out.ensures w.if-not-is_out.false))
+          (left-out in_time es r (take i deletes) d c.loop-delete.left was (c.is_out.ensures w.if-not-is_out.false))
     ]

@@ -6,7 +6,7 @@ use Rattle.log_choices.proofs.forced_plan.Plan.replacing.Goals.{in-Some+then-rep
 
 pub loop-client-preserved : goal.loop-client-preserved
 loop-client-preserved c =
-    let P : ℕ → Type 0 = IsReplacing c.args.log.now c.args.self.now.writes.items c.args.read.key c.args.read.place in
+    let P : ℕ → Type 0 = IsReplacing c.args.timed.in_time c.args.timed.log.now c.args.self.now.writes.items c.args.read.key c.args.read.place in
     elim c.match-last_before.branch [
       | in-Some+then-replaces+in_ok-push w ↦
           rw (w.numbers-is, w.in_ok-push.ensures.items)
