@@ -1,6 +1,6 @@
 -- Calls as writes and deletes that did not fail.
 use Rattle.std.proofs.Common.{◌≡◌, ℕ, suc, ◌<◌, ap, sym, subst, ◌∙◌, arith}
-use Rattle.std.specs.Prelude.{◌≢◌, Contains, false, List, Some, slice_get, slice_index}
+use Rattle.std.specs.Prelude.{◌≢◌, Bool, Contains, false, List, Some, slice_get, slice_index}
 use Rattle.log_events.specs.declared.event.ClientCall.{ClientCall}
 use Rattle.log_events.specs.declared.event.ClientCall.TheVariants.{ReadOf}
 use Rattle.log_events.specs.declared.event.Ending.{Ending}
@@ -8,7 +8,7 @@ use Rattle.log_events.specs.declared.event.Ending.TheVariants.{GotNothing, Faile
 use Rattle.log_events.specs.declared.event.Event.{Event}
 use Rattle.log_events.specs.declared.event.Event.TheVariants.{Begins}
 use Rattle.log_events.specs.declared.limits.TheConstants.{MAX_EVENTS}
-use Rattle.log_events.specs.Events.{Call, IsEnded, run_calls}
+use Rattle.log_events.specs.Events.{Call, IsAt, IsEnded, run_calls}
 use Rattle.log_events.proofs.CallPlaces.{ended-to}
 use Rattle.log_choices.specs.Forced.{Comes, through}
 use Rattle.log_choices.specs.ForcedSteps.{GetsNothing, IsKeptWrite, written_by, writing}
@@ -19,7 +19,7 @@ use Rattle.log_choices.proofs.ForcedPasts.{session-comes}
 use Rattle.std.proofs.Common.{⊎_elim, ◌-◌}
 use Rattle.std.proofs.lemmas.Bool.{cases_eq}
 
-module _ (es : List Event) where
+module _ (in_time : Bool) (es : List Event) where
   pub kept-is : (a : Call) → Contains (run_calls es) a → (w : Kept) → w.client ≡ a.client → w.place ≡ a.place
       → written_by a.call a.ending ≡ Some (w.key, w.value) → (w.is_lost ≡ false → a.ending ≢ Some Lost) → w.place < MAX_EVENTS
       → ((c : ℕ) → slice_index w.past.items c ≡ 0) → IsKeptWrite in_time es w
@@ -50,9 +50,17 @@ module _ (es : List Event) where
   gets-otherwise : (read : NullRead) → GetsNothing es read → (e : Ending) → GotNothing ≢ e → (k : ℕ)
       → ¬ IsEnded es read.client (ReadOf read.key) read.place k e
   gets-otherwise read gets e other k end =
-      let first = ended-to es read.client (ReadOf read.key) read.place gets.ends GotNothing gets.ended in
+      let first = ended-to es read.client (ReadOf read.key) read.place read.end GotNothing gets.ended in
       let second = ended-to es read.client (ReadOf read.key) read.place k e end in
       let same : Some GotNothing ≡ Some e = sym first ∙ second in other cc
+
+  -- it comes before a later write of its client
+  pub read-earlier : (read : NullRead) → GetsNothing es read → (w : Kept) → IsKeptWrite in_time es w → w.client ≡ read.client
+      → read.place < w.place → Comes in_time es read.place w.place
+  read-earlier read gets w kept same below =
+      session-comes in_time es read.client read.place w.place (ReadOf read.key) (writing w.key w.value) gets.ended.was_open.begun
+      (subst (λ (n : ℕ). IsAt es w.place (Begins n (writing w.key w.value))) same kept.begun) below
+      (gets-otherwise read gets Failed (λ same. absurd cc)) (gets-otherwise read gets Lost (λ same. absurd cc))
 
   -- a read comes before a write where a count of its client, of what comes before the write, is above its place
   pub read-precedes : (read : NullRead) → GetsNothing es read → (w : Kept) → IsKeptWrite in_time es w → read.place < slice_index w.past.items read.client

@@ -1,8 +1,8 @@
 -- What a pass keeps: what it has found so far, and what comes before the calls that it comes to.
-use Rattle.std.proofs.Common.{◌≡◌, ℕ, ◌+◌, ◌<◌, ◌≤◌, [], ◌∷◌, ◌++◌, length, get_or, set, ap, sym, subst, ◌∙◌, inl, inr, ⊎_elim, false, arith}
+use Rattle.std.proofs.Common.{◌≡◌, ℕ, ◌+◌, ◌<◌, ◌≤◌, [], ◌∷◌, ◌++◌, length, get_or, set, ap, sym, subst, ◌∙◌, inl, inr, ⊎_elim, arith}
 use Rattle.std.proofs.lemmas.Bool.{cases_eq}
-use Rattle.std.proofs.lemmas.Option.{slice_get_within, get_or_from_slice_get, slice_get-get_or}
-use Rattle.std.specs.Prelude.{◌≢◌, ◌⊎◌, All, Contains, List, Some, slice_get, slice_index, option_map}
+use Rattle.std.proofs.lemmas.Option.{same_Some, slice_get_within, get_or_from_slice_get, slice_get-get_or}
+use Rattle.std.specs.Prelude.{◌≢◌, ◌⊎◌, Bool, All, Contains, List, Some, slice_get, slice_index, option_map}
 use Rattle.std.specs.List.Sorted.{IsStrictlyIncreasing}
 use Rattle.std.specs.Map.{keys_of}
 use Rattle.std.specs.declared.vec.Vec.{Vec}
@@ -13,6 +13,7 @@ use Rattle.std.proofs.lemmas.List.Quantifiers.{all_pairs_push}
 use Rattle.model_objects.specs.Table.{IsRising, value_at}
 use Rattle.log_events.specs.declared.event.ClientCall.{ClientCall}
 use Rattle.log_events.specs.declared.event.ClientCall.TheVariants.{WriteTo, ReadOf}
+use Rattle.log_events.specs.declared.event.Ending.{Ending}
 use Rattle.log_events.specs.declared.event.Ending.TheVariants.{Got, GotNothing, Failed, Lost}
 use Rattle.log_events.specs.declared.event.Event.{Event}
 use Rattle.log_events.specs.declared.event.Event.TheVariants.{Begins}
@@ -20,7 +21,8 @@ use Rattle.log_events.specs.Events.{Call, IsAt, IsEnded, run_calls}
 use Rattle.log_events.specs.Kept.{IsSmallCall}
 use Rattle.log_events.specs.Shapes.{called_key}
 use Rattle.log_events.specs.declared.limits.TheConstants.{MAX_NAME}
-use Rattle.log_events.proofs.CallPlaces.{calls-rise}
+use Rattle.log_events.proofs.CallKindsLaws.{Contains-place}
+use Rattle.log_events.proofs.CallPlaces.{calls-once, calls-rise, ended-to}
 use Rattle.log_choices.specs.ChoiceTables.{seen_of}
 use Rattle.log_choices.specs.Forced.{Comes, only_left, returned}
 use Rattle.log_choices.specs.ForcedSteps.{AreForcedReads, AreFoundBelow, ArePasts, IsKeptWrite, IsLeftWith, IsLook, IsPast}
@@ -48,7 +50,7 @@ rising-push table r s rising below =
         let short : k < length table = omega (arith, length-map table (λ (entry : ℕ × Seen). entry.0)) in
         rw (get_or-map (λ (entry : ℕ × Seen). entry.0) table k (0, Start) d short) (below k (0, Start) short)
 
-module _ (es : List Event) where
+module _ (in_time : Bool) (es : List Event) where
   pub none-forced : AreForcedReads in_time es []
   none-forced = record { seen = λ k e below. absurd (omega arith); rising = λ i inside. absurd (omega arith) }
 
@@ -135,19 +137,32 @@ module _ (es : List Event) where
       (λ (answered : IsAnswered a.ending). absurd (⊎_elim {C = ⊥} answered.2 answered.1 ended))
       later
 
-  -- a call that is a read that got nothing
-  pub gets-nothing : (a : Call) → Contains (run_calls es) a → IsSmallCall a → (read : NullRead) → read.client ≡ a.client
-      → read.place ≡ a.place → a.call ≡ ReadOf read.key → a.ending ≡ Some GotNothing → GetsNothing es read
-  gets-nothing a listed small read client place call ending = record {
+  -- a call that is a read that got nothing, by its number and by the place at which the call of that number ended
+  pub gets-nothing : (a : Call) → Contains (run_calls es) a → IsSmallCall a → (n : ℕ) (b : Call) → slice_get (run_calls es) n ≡ Some b
+      → b.place ≡ a.place → (read : NullRead)
+      → ((d : Call) → slice_get (run_calls es) n ≡ Some d → (e : Ending) × IsEnded es d.client d.call d.place read.end e)
+      → read.client ≡ a.client → read.place ≡ a.place → a.call ≡ ReadOf read.key → a.ending ≡ Some GotNothing → GetsNothing es read
+  gets-nothing a listed small n b at same read ended client place call ending = record {
     small = subst (λ (d : ClientCall). called_key d ≤ MAX_NAME) call small.key;
-    ends = end.0;
-    ended = subst (λ (n : ℕ). IsEnded es read.client (ReadOf read.key) n end.0 GotNothing) (sym place)
-        (subst (λ (n : ℕ). IsEnded es n (ReadOf read.key) a.place end.0 GotNothing) (sym client)
-        (subst (λ (d : ClientCall). IsEnded es a.client d a.place end.0 GotNothing) call end.1));
+    ended = subst (λ (m : ℕ). IsEnded es read.client (ReadOf read.key) m read.end GotNothing) (sym place)
+        (subst (λ (m : ℕ). IsEnded es m (ReadOf read.key) a.place read.end GotNothing) (sym client)
+        (subst (λ (d : ClientCall). IsEnded es a.client d a.place read.end GotNothing) call own));
   }
     where
-      end : (j : ℕ) × IsEnded es a.client a.call a.place j GotNothing
-      end = call-ended es a listed GotNothing ending
+      number : (k : ℕ) × (slice_get (run_calls es) k ≡ Some a)
+      number = Contains-place (run_calls es) a listed
+
+      here : slice_get (run_calls es) n ≡ Some a
+      here = ap (slice_get (run_calls es)) (calls-once es n number.0 b a at number.1 same) ∙ number.1
+
+      last : (e : Ending) × IsEnded es a.client a.call a.place read.end e
+      last = ended a here
+
+      nothing : last.0 ≡ GotNothing
+      nothing = same_Some _ _ (sym (sym ending ∙ (call-placed es a listed).ended ∙ ended-to es a.client a.call a.place read.end last.0 last.1))
+
+      own : IsEnded es a.client a.call a.place read.end GotNothing
+      own = subst (λ (e : Ending). IsEnded es a.client a.call a.place read.end e) nothing last.1
 
   -- what is known before the call of a number, by the plan, the pasts of the clients, and what is found
   pub record IsPassed {Z : Type 0} (i : ℕ) (plan : Plan) (pasts : List (Vec ℕ Z)) (table : List (ℕ × Seen)) : Type 0 where

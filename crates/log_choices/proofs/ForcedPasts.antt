@@ -1,6 +1,6 @@
 -- What comes before a call, as counts of it say.
 use Rattle.std.proofs.Common.{◌≡◌, ℕ, suc, ◌+◌, ◌-◌, ◌<◌, sym, subst, ◌∙◌, ⊎_elim, arith}
-use Rattle.std.specs.Prelude.{◌≢◌, ◌⊎◌, false, List, slice_index}
+use Rattle.std.specs.Prelude.{◌≢◌, ◌⊎◌, Bool, false, List, slice_index}
 use Rattle.std.proofs.lemmas.Bool.{cases_eq}
 use Rattle.log_events.specs.declared.event.ClientCall.{ClientCall}
 use Rattle.log_events.specs.declared.event.Ending.TheVariants.{Failed, Lost}
@@ -18,7 +18,7 @@ IsRaised old new client place = (c : ℕ) → slice_index new c ≢ slice_index 
 abbrev pub IsJoined : List ℕ → List ℕ → List ℕ → Type 0
 IsJoined old new other = (c : ℕ) → slice_index new c ≢ slice_index old c → slice_index new c ≡ slice_index other c
 
-module _ (es : List Event) where
+module _ (in_time : Bool) (es : List Event) where
   -- one call of a client that neither fails nor is lost comes before a later one
   pub session-comes : (client a b : ℕ) (call next : ClientCall) → IsAt es a (Begins client call) → IsAt es b (Begins client next) → a < b
       → ((k : ℕ) → ¬ IsEnded es client call a k Failed) → ((k : ℕ) → ¬ IsEnded es client call a k Lost) → Comes in_time es a b

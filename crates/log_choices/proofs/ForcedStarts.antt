@@ -1,6 +1,6 @@
 -- Which keys have a start, by the start of the history of a log.
-use Rattle.std.proofs.Common.{◌≡◌, ℕ, zero, suc, ◌*◌, true, false, cond, Bool, [], ◌∷◌, refl, ap, sym, subst, arith, eqb-true, eq-eqb}
-use Rattle.std.specs.Prelude.{◌==◌, ◌↔◌, IsTrue, List, Option, Some, None, filter_map, slice_get, Contains}
+use Rattle.std.proofs.Common.{◌≡◌, ℕ, zero, suc, ◌*◌, true, false, cond, Bool, [], ◌∷◌, refl, ap, sym, subst, inl, inr, arith, eqb-true, eq-eqb}
+use Rattle.std.specs.Prelude.{◌==◌, ◌↔◌, ◌⊎◌, IsTrue, List, Option, Some, None, filter_map, slice_get, Contains}
 use Rattle.std.specs.Option.{is_some}
 use Rattle.std.proofs.lemmas.Map.Views.{Contains-from_lookup}
 use Rattle.std.proofs.lemmas.Option.{same_Some}
@@ -58,3 +58,12 @@ module _ (es : List Event) (x : ℕ) where
       let none : is_some (value_at (filter_map start_entry es) (key x)) ≡ false =
       subst (λ (l : List (ℕ × ℕ)). is_some (value_at l (key x)) ≡ false) is (ap is_some (sym found)) in
       (λ no. absurd cc, λ (k, v, at). let some = started-to k v at in absurd cc)
+
+  -- a key has a start, or none
+  pub start-or-none : ((k : ℕ) × (v : ℕ) × IsAt es k (Starts x v)) ⊎ ((k v : ℕ) → ¬ IsAt es k (Starts x v))
+  start-or-none = by_value (is_some (value_at (filter_map start_entry es) (key x))) refl
+    where
+      by_value : (b : Bool) → is_some (value_at (filter_map start_entry es) (key x)) ≡ b
+          → ((k : ℕ) × (v : ℕ) × IsAt es k (Starts x v)) ⊎ ((k v : ℕ) → ¬ IsAt es k (Starts x v))
+      by_value true some = inl (started-from some)
+      by_value false none = inr (λ k v at. let some = started-to k v at in absurd cc)

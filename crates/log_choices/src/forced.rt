@@ -47,7 +47,7 @@ pub fn forced_reads(alloc: Global, log: &EventLog, in_time: bool) -> Result<Tabl
         if !found.has_grown {
             break;
         }
-        found = pass(alloc, timed, &mut plan, &found.seen)?;
+        found = pass(alloc, &timed, &mut plan, &found.seen)?;
     }
     Ok(found.seen)
 }

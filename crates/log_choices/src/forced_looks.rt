@@ -44,14 +44,14 @@ impl Plan {
     pub(crate) fn look(
         &self,
         alloc: Global,
-        timed: Timed<'_>,
+        timed: &Timed<'_>,
         read: NullRead,
         past: &[u32],
     ) -> Result<Option<Seen>, AllocError>
-        requires plan { IsPlan timed.in_time timed.log.now self.now }
-        requires read { GetsNothing timed.log.now read }
-        requires past { IsPast timed.in_time timed.log.now past.now read.place }
-        ensures { IfOk result (IsLook timed.in_time timed.log.now read.place) }
+        requires plan { IsPlan timed.now.in_time timed.now.log.now self.now }
+        requires read { GetsNothing timed.now.log.now read }
+        requires past { IsPast timed.now.in_time timed.now.log.now past.now read.place }
+        ensures { IfOk result (IsLook timed.now.in_time timed.now.log.now read.place) }
     {
         let deletes = self.deletes_of(read.key);
         if deletes.is_empty() {
@@ -66,13 +66,13 @@ impl Plan {
 
     /// Whether a read can have seen the start: the key has none, and no write or delete of the key comes before the read. O(log n) for n
     /// starts.
-    fn is_start_left(&self, timed: Timed<'_>, read: NullRead, replacing: &[u32]) -> bool
-        requires plan { IsPlan timed.in_time timed.log.now self.now }
-        requires read { GetsNothing timed.log.now read }
-        requires replacing { All (IsReplacing timed.in_time timed.log.now self.now.writes.items read.key read.place) replacing.now }
-        ensures left { IsTrue result → (k v : ℕ) → ¬ IsAt timed.log.now k (Starts read.key v) }
-        ensures out { result ≡ false → (p : ℕ) → BeginsKeptDelete timed.log.now read.key p → ((k v : ℕ) → ¬ IsAt timed.log.now k (Starts read.key v))
-            → IsOut timed.in_time timed.log.now read.place None }
+    fn is_start_left(&self, timed: &Timed<'_>, read: NullRead, replacing: &[u32]) -> bool
+        requires plan { IsPlan timed.now.in_time timed.now.log.now self.now }
+        requires read { GetsNothing timed.now.log.now read }
+        requires replacing { All (IsReplacing timed.now.in_time timed.now.log.now self.now.writes.items read.key read.place) replacing.now }
+        ensures left { IsTrue result → (k v : ℕ) → ¬ IsAt timed.now.log.now k (Starts read.key v) }
+        ensures out { result ≡ false → (p : ℕ) → BeginsKeptDelete timed.now.log.now read.key p → ((k v : ℕ) → ¬ IsAt timed.now.log.now k (Starts read.key v))
+            → IsOut timed.now.in_time timed.now.log.now read.place None }
     {
         if !replacing.is_empty() {
             return false;
@@ -87,13 +87,13 @@ impl Plan {
     fn replacing(
         &self,
         alloc: Global,
-        timed: Timed<'_>,
+        timed: &Timed<'_>,
         read: NullRead,
         past: &[u32],
     ) -> Result<Vec<u32>, AllocError>
-        requires plan { IsPlan timed.in_time timed.log.now self.now }
-        requires past { IsPast timed.in_time timed.log.now past.now read.place }
-        ensures { IfOk result (λ numbers. All (IsReplacing timed.in_time timed.log.now self.now.writes.items read.key read.place) numbers.items) }
+        requires plan { IsPlan timed.now.in_time timed.now.log.now self.now }
+        requires past { IsPast timed.now.in_time timed.now.log.now past.now read.place }
+        ensures { IfOk result (λ numbers. All (IsReplacing timed.now.in_time timed.now.log.now self.now.writes.items read.key read.place) numbers.items) }
     {
         let mut numbers = Vec::new(alloc);
         for client in 0..timed.log.clients() {
@@ -110,16 +110,16 @@ impl Plan {
     /// Fails for want of memory alone.
     fn add_replacing(
         &self,
-        timed: Timed<'_>,
+        timed: &Timed<'_>,
         number: Option<u32>,
         read: NullRead,
         past: &[u32],
         numbers: &mut Vec<u32>,
     ) -> Result<(), AllocError>
-        requires plan { IsPlan timed.in_time timed.log.now self.now }
-        requires past { IsPast timed.in_time timed.log.now past.now read.place }
-        requires numbers { All (IsReplacing timed.in_time timed.log.now self.now.writes.items read.key read.place) numbers.old.items }
-        ensures { OnOk result (All (IsReplacing timed.in_time timed.log.now self.now.writes.items read.key read.place) numbers.new.items) }
+        requires plan { IsPlan timed.now.in_time timed.now.log.now self.now }
+        requires past { IsPast timed.now.in_time timed.now.log.now past.now read.place }
+        requires numbers { All (IsReplacing timed.now.in_time timed.now.log.now self.now.writes.items read.key read.place) numbers.old.items }
+        ensures { OnOk result (All (IsReplacing timed.now.in_time timed.now.log.now self.now.writes.items read.key read.place) numbers.new.items) }
     {
         if let Some(number) = number
             && self.replaces(timed, number, read, past)
@@ -130,10 +130,10 @@ impl Plan {
     }
 
     /// Whether a number is that of a write of the key that is known to come before a read, by what comes before the read.
-    fn replaces(&self, timed: Timed<'_>, number: u32, read: NullRead, past: &[u32]) -> bool
-        requires plan { IsPlan timed.in_time timed.log.now self.now }
-        requires past { IsPast timed.in_time timed.log.now past.now read.place }
-        ensures { IsTrue result → IsReplacing timed.in_time timed.log.now self.now.writes.items read.key read.place number }
+    fn replaces(&self, timed: &Timed<'_>, number: u32, read: NullRead, past: &[u32]) -> bool
+        requires plan { IsPlan timed.now.in_time timed.now.log.now self.now }
+        requires past { IsPast timed.now.in_time timed.now.log.now past.now read.place }
+        ensures { IsTrue result → IsReplacing timed.now.in_time timed.now.log.now self.now.writes.items read.key read.place number }
     {
         match self.writes.get(number as usize) {
             Some(write) => write.key == read.key && precedes(write, past),
@@ -144,16 +144,16 @@ impl Plan {
     /// Which of some deletes of the key are left of a read, where these writes and deletes of the key come before it.
     fn left_of(
         &self,
-        timed: Timed<'_>,
+        timed: &Timed<'_>,
         deletes: &[Delete],
         read: NullRead,
         replacing: &[u32],
     ) -> Left
-        requires plan { IsPlan timed.in_time timed.log.now self.now }
-        requires read { GetsNothing timed.log.now read }
+        requires plan { IsPlan timed.now.in_time timed.now.log.now self.now }
+        requires read { GetsNothing timed.now.log.now read }
         requires deletes { AreOfKey self.now.deletes.items read.key deletes.now }
-        requires replacing { All (IsReplacing timed.in_time timed.log.now self.now.writes.items read.key read.place) replacing.now }
-        ensures { IsLeft timed.in_time timed.log.now read.place read.end deletes.now result }
+        requires replacing { All (IsReplacing timed.now.in_time timed.now.log.now self.now.writes.items read.key read.place) replacing.now }
+        ensures { IsLeft timed.now.in_time timed.now.log.now read.place read.end deletes.now result }
     {
         let mut left = Left::NoneLeft;
         for delete in deletes {
@@ -170,18 +170,18 @@ impl Plan {
     /// Whether a read can't have seen a delete: it is out, or begins after the read had ended.
     fn is_excluded(
         &self,
-        timed: Timed<'_>,
+        timed: &Timed<'_>,
         delete: Delete,
         read: NullRead,
         replacing: &[u32],
     ) -> bool
-        requires plan { IsPlan timed.in_time timed.log.now self.now }
-        requires read { GetsNothing timed.log.now read }
+        requires plan { IsPlan timed.now.in_time timed.now.log.now self.now }
+        requires read { GetsNothing timed.now.log.now read }
         requires listed { Contains self.now.deletes.items delete }
         requires key { delete.key ≡ read.key }
-        requires replacing { All (IsReplacing timed.in_time timed.log.now self.now.writes.items read.key read.place) replacing.now }
-        ensures excluded { IsTrue result → IsExcluded timed.in_time timed.log.now read.place read.end delete.place }
-        ensures possible { result ≡ false → IsTrue timed.in_time → delete.place < read.end }
+        requires replacing { All (IsReplacing timed.now.in_time timed.now.log.now self.now.writes.items read.key read.place) replacing.now }
+        ensures excluded { IsTrue result → IsExcluded timed.now.in_time timed.now.log.now read.place read.end delete.place }
+        ensures possible { result ≡ false → IsTrue timed.now.in_time → delete.place < read.end }
     {
         if !is_possible(timed, delete, read) {
             return true;
@@ -190,13 +190,13 @@ impl Plan {
     }
 
     /// Whether a read can't have seen a delete: the delete comes after the read, or one of these writes and deletes has replaced it.
-    fn is_out(&self, timed: Timed<'_>, delete: Delete, read: NullRead, replacing: &[u32]) -> bool
-        requires plan { IsPlan timed.in_time timed.log.now self.now }
-        requires read { GetsNothing timed.log.now read }
+    fn is_out(&self, timed: &Timed<'_>, delete: Delete, read: NullRead, replacing: &[u32]) -> bool
+        requires plan { IsPlan timed.now.in_time timed.now.log.now self.now }
+        requires read { GetsNothing timed.now.log.now read }
         requires listed { Contains self.now.deletes.items delete }
         requires key { delete.key ≡ read.key }
-        requires replacing { All (IsReplacing timed.in_time timed.log.now self.now.writes.items read.key read.place) replacing.now }
-        ensures { IsTrue result → IsOut timed.in_time timed.log.now read.place (Some delete.place) }
+        requires replacing { All (IsReplacing timed.now.in_time timed.now.log.now self.now.writes.items read.key read.place) replacing.now }
+        ensures { IsTrue result → IsOut timed.now.in_time timed.now.log.now read.place (Some delete.place) }
     {
         match self.write_at(delete.place) {
             Some(write) => follows(timed, write, read) || self.is_replaced(timed, write, replacing),
@@ -205,12 +205,12 @@ impl Plan {
     }
 
     /// Whether one of some writes and deletes, by their numbers, is known to come after a write.
-    fn is_replaced(&self, timed: Timed<'_>, write: &Kept, by: &[u32]) -> bool
-        requires plan { IsPlan timed.in_time timed.log.now self.now }
-        requires write { IsKeptWrite timed.in_time timed.log.now write.now }
+    fn is_replaced(&self, timed: &Timed<'_>, write: &Kept, by: &[u32]) -> bool
+        requires plan { IsPlan timed.now.in_time timed.now.log.now self.now }
+        requires write { IsKeptWrite timed.now.in_time timed.now.log.now write.now }
         ensures { IsTrue result → (number : ℕ) × (w : Written) × Contains by.now number
             × (slice_get self.now.writes.items number ≡ Some w) × (w.place ≢ write.now.place)
-            × Comes timed.in_time timed.log.now write.now.place w.place }
+            × Comes timed.now.in_time timed.now.log.now write.now.place w.place }
     {
         for number in by {
             if let Some(other) = self.writes.get(*number as usize)
@@ -225,16 +225,16 @@ impl Plan {
 }
 
 /// Whether a delete begins before a read had ended, where that counts.
-fn is_possible(timed: Timed<'_>, delete: Delete, read: NullRead) -> bool
-    ensures possible { IsTrue result → IsTrue timed.in_time → delete.place < read.end }
-    ensures late { result ≡ false → IsTrue timed.in_time × (read.end ≤ delete.place) }
+fn is_possible(timed: &Timed<'_>, delete: Delete, read: NullRead) -> bool
+    ensures possible { IsTrue result → IsTrue timed.now.in_time → delete.place < read.end }
+    ensures late { result ≡ false → IsTrue timed.now.in_time × (read.end ≤ delete.place) }
 {
     !timed.in_time || delete.place < read.end
 }
 
 /// The first of the deletes of a key that begins before a read had ended, where that counts.
-fn first_possible(timed: Timed<'_>, deletes: &[Delete], read: NullRead) -> Option<Delete>
-    ensures { IsFirst timed.in_time read.end deletes.now result }
+fn first_possible(timed: &Timed<'_>, deletes: &[Delete], read: NullRead) -> Option<Delete>
+    ensures { IsFirst timed.now.in_time read.end deletes.now result }
 {
     for delete in deletes {
         if is_possible(timed, *delete, read) {
@@ -259,10 +259,10 @@ fn look_of(left: Left, is_start_left: bool, first: Option<Delete>) -> Option<See
 }
 
 /// Whether a write or delete is known to come after a read.
-fn follows(timed: Timed<'_>, write: &Kept, read: NullRead) -> bool
-    requires write { IsKeptWrite timed.in_time timed.log.now write.now }
-    requires read { GetsNothing timed.log.now read }
-    ensures { IsTrue result → Comes timed.in_time timed.log.now read.place write.now.place }
+fn follows(timed: &Timed<'_>, write: &Kept, read: NullRead) -> bool
+    requires write { IsKeptWrite timed.now.in_time timed.now.log.now write.now }
+    requires read { GetsNothing timed.now.log.now read }
+    ensures { IsTrue result → Comes timed.now.in_time timed.now.log.now read.place write.now.place }
 {
     if write.client == read.client && write.place > read.place {
         return true;

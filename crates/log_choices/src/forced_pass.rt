@@ -44,14 +44,14 @@ impl Found {
 /// Fails for want of memory alone. O(n k) for n calls and k clients, and for each null read what [`Plan::look`] takes.
 pub(crate) fn pass(
     alloc: Global,
-    timed: Timed<'_>,
+    timed: &Timed<'_>,
     plan: &mut Plan,
     earlier: &Table<Seen>,
 ) -> Result<Found, AllocError>
-    requires plan { IsPlan timed.in_time timed.log.now plan.old }
-    requires earlier { AreForcedReads timed.in_time timed.log.now earlier.now }
-    ensures plan { OnOk result (IsPlan timed.in_time timed.log.now plan.new) }
-    ensures found { IfOk result (λ found. AreForcedReads timed.in_time timed.log.now found.seen) }
+    requires plan { IsPlan timed.now.in_time timed.now.log.now plan.old }
+    requires earlier { AreForcedReads timed.now.in_time timed.now.log.now earlier.now }
+    ensures plan { OnOk result (IsPlan timed.now.in_time timed.now.log.now plan.new) }
+    ensures found { IfOk result (λ found. AreForcedReads timed.now.in_time timed.now.log.now found.seen) }
 {
     let mut pasts = nothing_known(alloc, timed)?;
     let mut found = Found::nothing(alloc);
@@ -76,8 +76,8 @@ pub(crate) fn pass(
 /// For each client that nothing is known to come before its first call.
 ///
 /// Fails for want of memory alone. O(k^2) for k clients.
-fn nothing_known(alloc: Global, timed: Timed<'_>) -> Result<Vec<Vec<u32>>, AllocError>
-    ensures { IfOk result (λ pasts. (b : ℕ) → ArePasts timed.in_time timed.log.now b pasts.items) }
+fn nothing_known(alloc: Global, timed: &Timed<'_>) -> Result<Vec<Vec<u32>>, AllocError>
+    ensures { IfOk result (λ pasts. (b : ℕ) → ArePasts timed.now.in_time timed.now.log.now b pasts.items) }
 {
     let clients = timed.log.clients() as usize;
     let mut pasts = Vec::new(alloc);
@@ -92,21 +92,21 @@ fn nothing_known(alloc: Global, timed: Timed<'_>) -> Result<Vec<Vec<u32>>, Alloc
 /// Fails for want of memory alone.
 fn advance(
     alloc: Global,
-    timed: Timed<'_>,
+    timed: &Timed<'_>,
     plan: &mut Plan,
     call: &LoggedCall,
     past: &mut [u32],
     earlier: &Table<Seen>,
     found: &mut Found,
 ) -> Result<(), AllocError>
-    requires plan { IsPlan timed.in_time timed.log.now plan.old }
-    requires call { Contains (run_calls timed.log.now) call.now }
-    requires past { IsPastFrom timed.in_time timed.log.now call.now.client call.now.place past.old }
-    requires earlier { AreForcedReads timed.in_time timed.log.now earlier.now }
-    requires found { AreFoundBelow timed.in_time timed.log.now call.now.place found.old.seen }
-    ensures plan { OnOk result (IsPlan timed.in_time timed.log.now plan.new) }
-    ensures past { OnOk result (IsPastFrom timed.in_time timed.log.now call.now.client (call.now.place + 1) past.new) }
-    ensures found { OnOk result (AreFoundBelow timed.in_time timed.log.now (call.now.place + 1) found.new.seen) }
+    requires plan { IsPlan timed.now.in_time timed.now.log.now plan.old }
+    requires call { Contains (run_calls timed.now.log.now) call.now }
+    requires past { IsPastFrom timed.now.in_time timed.now.log.now call.now.client call.now.place past.old }
+    requires earlier { AreForcedReads timed.now.in_time timed.now.log.now earlier.now }
+    requires found { AreFoundBelow timed.now.in_time timed.now.log.now call.now.place found.old.seen }
+    ensures plan { OnOk result (IsPlan timed.now.in_time timed.now.log.now plan.new) }
+    ensures past { OnOk result (IsPastFrom timed.now.in_time timed.now.log.now call.now.client (call.now.place + 1) past.new) }
+    ensures found { OnOk result (AreFoundBelow timed.now.in_time timed.now.log.now (call.now.place + 1) found.new.seen) }
 {
     match call.call() {
         ClientCall::ReadOf(_) => look_back(alloc, timed, plan, call, past, earlier, found)?,
@@ -117,11 +117,11 @@ fn advance(
 }
 
 /// Adds a call to what comes before the later calls of its client, unless it failed or was lost.
-fn go_past(timed: Timed<'_>, call: &LoggedCall, past: &mut [u32])
-    requires call { Contains (run_calls timed.log.now) call.now }
-    requires here { IsPast timed.in_time timed.log.now past.old call.now.place }
-    requires later { IsPastFrom timed.in_time timed.log.now call.now.client call.now.place past.old ⊎ IsAnswered call.now.ending }
-    ensures { IsPastFrom timed.in_time timed.log.now call.now.client (call.now.place + 1) past.new }
+fn go_past(timed: &Timed<'_>, call: &LoggedCall, past: &mut [u32])
+    requires call { Contains (run_calls timed.now.log.now) call.now }
+    requires here { IsPast timed.now.in_time timed.now.log.now past.old call.now.place }
+    requires later { IsPastFrom timed.now.in_time timed.now.log.now call.now.client call.now.place past.old ⊎ IsAnswered call.now.ending }
+    ensures { IsPastFrom timed.now.in_time timed.now.log.now call.now.client (call.now.place + 1) past.new }
 {
     // It opens the log, so that its calls are known to be small.
     let _calls = timed.log.calls();
@@ -142,21 +142,21 @@ fn is_lost_or_failed(call: &LoggedCall) -> bool
 /// Fails for want of memory alone.
 fn look_back(
     alloc: Global,
-    timed: Timed<'_>,
+    timed: &Timed<'_>,
     plan: &Plan,
     call: &LoggedCall,
     past: &mut [u32],
     earlier: &Table<Seen>,
     found: &mut Found,
 ) -> Result<(), AllocError>
-    requires plan { IsPlan timed.in_time timed.log.now plan.now }
-    requires call { Contains (run_calls timed.log.now) call.now }
-    requires past { IsPast timed.in_time timed.log.now past.old call.now.place }
-    requires earlier { AreForcedReads timed.in_time timed.log.now earlier.now }
-    requires found { AreFoundBelow timed.in_time timed.log.now call.now.place found.old.seen }
-    ensures past { OnOk result (IsPast timed.in_time timed.log.now past.new call.now.place) }
+    requires plan { IsPlan timed.now.in_time timed.now.log.now plan.now }
+    requires call { Contains (run_calls timed.now.log.now) call.now }
+    requires past { IsPast timed.now.in_time timed.now.log.now past.old call.now.place }
+    requires earlier { AreForcedReads timed.now.in_time timed.now.log.now earlier.now }
+    requires found { AreFoundBelow timed.now.in_time timed.now.log.now call.now.place found.old.seen }
+    ensures past { OnOk result (IsPast timed.now.in_time timed.now.log.now past.new call.now.place) }
     ensures unread { OnOk result (past.new ≡ past.old ⊎ IsAnswered call.now.ending) }
-    ensures found { OnOk result (AreFoundBelow timed.in_time timed.log.now (call.now.place + 1) found.new.seen) }
+    ensures found { OnOk result (AreFoundBelow timed.now.in_time timed.now.log.now (call.now.place + 1) found.new.seen) }
 {
     // It opens the log, so that its calls are known to be small.
     let _calls = timed.log.calls();
@@ -187,7 +187,7 @@ fn null_read(log: &EventLog, call: &LoggedCall, key: u32) -> Option<NullRead>
     if calls.get(number)?.place() != call.place() {
         return None;
     }
-    let end = log.ended_at(u32::try_from(number).ok()?)?;
+    let end = log.ended_at(number as u32)?;
     Some(NullRead {
         client: call.client(),
         place: call.place(),
@@ -198,19 +198,19 @@ fn null_read(log: &EventLog, call: &LoggedCall, key: u32) -> Option<NullRead>
 
 /// Adds to what comes before a read the write whose value it got.
 fn follow_source(
-    timed: Timed<'_>,
+    timed: &Timed<'_>,
     plan: &Plan,
     call: &LoggedCall,
     key: u32,
     value: u32,
     past: &mut [u32],
 )
-    requires plan { IsPlan timed.in_time timed.log.now plan.now }
-    requires call { Contains (run_calls timed.log.now) call.now }
+    requires plan { IsPlan timed.now.in_time timed.now.log.now plan.now }
+    requires call { Contains (run_calls timed.now.log.now) call.now }
     requires read { call.now.call ≡ ReadOf key }
     requires got { call.now.ending ≡ Some (Got value) }
-    requires past { IsPast timed.in_time timed.log.now past.old call.now.place }
-    ensures { IsPast timed.in_time timed.log.now past.new call.now.place }
+    requires past { IsPast timed.now.in_time timed.now.log.now past.old call.now.place }
+    ensures { IsPast timed.now.in_time timed.now.log.now past.new call.now.place }
 {
     if let Some(write) = plan.write_of(key, value) {
         follow(past, write);
@@ -222,17 +222,17 @@ fn follow_source(
 /// Fails for want of memory alone.
 fn seen_by(
     alloc: Global,
-    timed: Timed<'_>,
+    timed: &Timed<'_>,
     plan: &Plan,
     read: NullRead,
     past: &[u32],
     earlier: &Table<Seen>,
 ) -> Result<Option<Seen>, AllocError>
-    requires plan { IsPlan timed.in_time timed.log.now plan.now }
-    requires read { GetsNothing timed.log.now read }
-    requires past { IsPast timed.in_time timed.log.now past.now read.place }
-    requires earlier { AreForcedReads timed.in_time timed.log.now earlier.now }
-    ensures { IfOk result (IsLook timed.in_time timed.log.now read.place) }
+    requires plan { IsPlan timed.now.in_time timed.now.log.now plan.now }
+    requires read { GetsNothing timed.now.log.now read }
+    requires past { IsPast timed.now.in_time timed.now.log.now past.now read.place }
+    requires earlier { AreForcedReads timed.now.in_time timed.now.log.now earlier.now }
+    ensures { IfOk result (IsLook timed.now.in_time timed.now.log.now read.place) }
 {
     match earlier.get(read.place) {
         Some(seen) => Ok(Some(*seen)),
@@ -244,20 +244,20 @@ fn seen_by(
 ///
 /// Fails for want of memory alone.
 fn put_down(
-    timed: Timed<'_>,
+    timed: &Timed<'_>,
     plan: &Plan,
     read: NullRead,
     seen: Option<Seen>,
     past: &mut [u32],
     found: &mut Found,
 ) -> Result<(), AllocError>
-    requires plan { IsPlan timed.in_time timed.log.now plan.now }
-    requires read { GetsNothing timed.log.now read }
-    requires seen { IsLook timed.in_time timed.log.now read.place seen }
-    requires past { IsPast timed.in_time timed.log.now past.old read.place }
-    requires found { AreFoundBelow timed.in_time timed.log.now read.place found.old.seen }
-    ensures past { OnOk result (IsPast timed.in_time timed.log.now past.new read.place) }
-    ensures found { OnOk result (AreFoundBelow timed.in_time timed.log.now (read.place + 1) found.new.seen) }
+    requires plan { IsPlan timed.now.in_time timed.now.log.now plan.now }
+    requires read { GetsNothing timed.now.log.now read }
+    requires seen { IsLook timed.now.in_time timed.now.log.now read.place seen }
+    requires past { IsPast timed.now.in_time timed.now.log.now past.old read.place }
+    requires found { AreFoundBelow timed.now.in_time timed.now.log.now read.place found.old.seen }
+    ensures past { OnOk result (IsPast timed.now.in_time timed.now.log.now past.new read.place) }
+    ensures found { OnOk result (AreFoundBelow timed.now.in_time timed.now.log.now (read.place + 1) found.new.seen) }
 {
     if let Some(seen) = seen {
         found.seen.push(read.place, seen)?;
@@ -274,15 +274,15 @@ fn put_down(
 ///
 /// Fails for want of memory alone. O(k + log n) for n writes and k clients.
 fn keep(
-    timed: Timed<'_>,
+    timed: &Timed<'_>,
     plan: &mut Plan,
     call: &LoggedCall,
     past: &[u32],
     found: &mut Found,
 ) -> Result<(), AllocError>
-    requires plan { IsPlan timed.in_time timed.log.now plan.old }
-    requires past { IsPast timed.in_time timed.log.now past.now call.now.place }
-    ensures plan { OnOk result (IsPlan timed.in_time timed.log.now plan.new) }
+    requires plan { IsPlan timed.now.in_time timed.now.log.now plan.old }
+    requires past { IsPast timed.now.in_time timed.now.log.now past.now call.now.place }
+    ensures plan { OnOk result (IsPlan timed.now.in_time timed.now.log.now plan.new) }
     ensures found { found.new.seen ≡ found.old.seen }
 {
     let number = plan.number_at(call.place());

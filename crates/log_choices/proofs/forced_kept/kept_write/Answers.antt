@@ -9,12 +9,12 @@ use Rattle.log_choices.proofs.forced_kept.kept_write.Goals as goal
 
 pub returns : goal.returns
 returns c =
-    let es = c.args.log.now in let in_time = c.args.in_time in
+    let es = c.args.log.now in
     let a = c.args.call.now in
     let all = subst (λ (l : List Call). All IsSmallCall l) c.calls-log.ensures.exact c.calls-log.ensures.small in
     let small = (All-contains IsSmallCall (run_calls es) a all c.requires).place in
     let place : c.place.result ≡ a.place = c.place.ensures in
     let within : c.place.result < MAX_EVENTS = omega (arith, small, place) in
-    kept-is in_time es a c.requires _ c.client.ensures place (sym c.in_ok-key.ensures)
+    λ in_time. kept-is in_time es a c.requires _ c.client.ensures place (sym c.in_ok-key.ensures)
     (λ not_lost is. let no : IsTrue false = subst IsTrue not_lost (c.is_lost.ensures.1 is) in absurd cc) within
     (λ k. ap (λ (l : List ℕ). slice_index l k) c.new.ensures.items)

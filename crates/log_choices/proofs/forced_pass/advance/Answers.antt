@@ -5,17 +5,17 @@ use Rattle.log_choices.proofs.forced_pass.advance.Goals as goal
 use Rattle.log_choices.proofs.forced_pass.advance.Goals.{in-ReadOf+in_ok-look_back-in-ReadOf, in_default+in_ok-keep-in_default}
 
 pub look_back-requires-clause-past : goal.look_back-requires-clause-past
-look_back-requires-clause-past c = past-here c.args.timed.in_time c.args.timed.log.now c.args.call.now c.args.past.now c.requires.call c.requires.past
+look_back-requires-clause-past c = past-here c.args.timed.now.in_time c.args.timed.now.log.now c.args.call.now c.args.past.now c.requires.call c.requires.past
 
 pub keep-requires : goal.keep-requires
 keep-requires c = record {
   plan = c.requires.plan;
-  past = past-here c.args.timed.in_time c.args.timed.log.now c.args.call.now c.args.past.now c.requires.call c.requires.past;
+  past = past-here c.args.timed.now.in_time c.args.timed.now.log.now c.args.call.now c.args.past.now c.requires.call c.requires.past;
 }
 
 pub go_past-requires-clause-here : goal.go_past-requires-clause-here
 go_past-requires-clause-here c =
-    let es = c.args.timed.log.now in let in_time = c.args.timed.in_time in
+    let es = c.args.timed.now.log.now in let in_time = c.args.timed.now.in_time in
     let a = c.args.call.now in
     elim c.match-call.branch [
       | in-ReadOf+in_ok-look_back-in-ReadOf w ↦
@@ -27,7 +27,7 @@ go_past-requires-clause-here c =
 pub go_past-requires-clause-later : goal.go_past-requires-clause-later
 go_past-requires-clause-later c =
     let a = c.args.call.now in
-    let P : List ℕ → Type 0 = IsPastFrom c.args.timed.in_time c.args.timed.log.now a.client a.place in
+    let P : List ℕ → Type 0 = IsPastFrom c.args.timed.now.in_time c.args.timed.now.log.now a.client a.place in
     let was = c.args.past.now in
     elim c.match-call.branch [
       | in-ReadOf+in_ok-look_back-in-ReadOf w ↦ ⊎_elim

@@ -14,8 +14,8 @@ returns-then-not-is_lost_or_failed c =
     let wrong : IsTrue false = subst IsTrue c.if-not-is_lost_or_failed.true (c.is_lost_or_failed.ensures.1 ended) in absurd cc in
     let raised = subst (λ (n : ℕ). IsRaised old new n a.place) c.client.ensures
     (subst (λ (n : ℕ). IsRaised old new c.client.result n) c.place.ensures c.raise.ensures) in
-    gone-past c.args.timed.in_time c.args.timed.log.now a old new c.requires.call stays raised c.requires.here
+    gone-past c.args.timed.now.in_time c.args.timed.now.log.now a old new c.requires.call stays raised c.requires.here
 
 pub returns-else-not-is_lost_or_failed : goal.returns-else-not-is_lost_or_failed
 returns-else-not-is_lost_or_failed c =
-    not-gone c.args.timed.in_time c.args.timed.log.now c.args.call.now c.args.past.now (c.is_lost_or_failed.ensures.0 c.if-not-is_lost_or_failed.false) c.requires.later
+    not-gone c.args.timed.now.in_time c.args.timed.now.log.now c.args.call.now c.args.past.now (c.is_lost_or_failed.ensures.0 c.if-not-is_lost_or_failed.false) c.requires.later

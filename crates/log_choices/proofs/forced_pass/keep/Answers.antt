@@ -9,7 +9,7 @@ use Rattle.log_choices.proofs.forced_pass.keep.Goals as goal
 
 pub returns-in_ok-renew-clause-plan : goal.returns-in_ok-renew-clause-plan
 returns-in_ok-renew-clause-plan c =
-    let es = c.args.timed.log.now in let in_time = c.args.timed.in_time in
+    let es = c.args.timed.now.log.now in let in_time = c.args.timed.now.in_time in
     let writes = c.args.plan.now.writes.items in
     let n = c.number_at-number.result in
     let w = c.index_mut.result.now in

@@ -11,12 +11,12 @@ use Rattle.log_choices.proofs.forced_pass.pass.Goals.{then-client-len+in_ok-adva
 pub loop-call-init : goal.loop-call-init
 loop-call-init c =
     let pasts = c.in_ok-pasts.pasts.items in
-    subst (λ (t : List (ℕ × Seen)). IsPassed c.args.timed.in_time c.args.timed.log.now 0 c.args.plan.now pasts t) (sym c.nothing-found.ensures)
-    (passed-first c.args.timed.in_time c.args.timed.log.now c.args.plan.now pasts c.requires.plan c.in_ok-pasts.ensures)
+    subst (λ (t : List (ℕ × Seen)). IsPassed c.args.timed.now.in_time c.args.timed.now.log.now 0 c.args.plan.now pasts t) (sym c.nothing-found.ensures)
+    (passed-first c.args.timed.now.in_time c.args.timed.now.log.now c.args.plan.now pasts c.requires.plan c.in_ok-pasts.ensures)
 
 pub advance-requires-clause-past : goal.advance-requires-clause-past
 advance-requires-clause-past c =
-    let es = c.args.timed.log.now in let in_time = c.args.timed.in_time in
+    let es = c.args.timed.now.log.now in let in_time = c.args.timed.now.in_time in
     let a = c.call-item.result in
     let i = c.loop-call.call-index in
     let k = c.client-client.result in
@@ -35,11 +35,11 @@ advance-requires-clause-found c =
     let i = c.loop-call.call-index in
     let at = subst (λ (l : List Call). slice_get l i ≡ Some a) c.calls-call-items.ensures.exact
     (get-at c.calls-call-items.result.now i a c.loop-call-test.true c.call-item.is) in
-    passed-found c.args.timed.in_time c.args.timed.log.now i c.loop-call.plan c.loop-call.pasts.items c.loop-call.found.seen a c.loop-call.invariant at
+    passed-found c.args.timed.now.in_time c.args.timed.now.log.now i c.loop-call.plan c.loop-call.pasts.items c.loop-call.found.seen a c.loop-call.invariant at
 
 pub loop-call-preserved : goal.loop-call-preserved
 loop-call-preserved c =
-    let es = c.args.timed.log.now in let in_time = c.args.timed.in_time in
+    let es = c.args.timed.now.log.now in let in_time = c.args.timed.now.in_time in
     let a = c.call-item.result in
     let i = c.loop-call.call-index in
     let k = c.client-client.result in

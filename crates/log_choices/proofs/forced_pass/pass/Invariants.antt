@@ -2,4 +2,4 @@ use Rattle.log_choices.proofs.ForcedPasses.{IsPassed}
 use Rattle.log_choices.proofs.forced_pass.pass.Given as goal
 
 abbrev pub invariant-loop-call : goal.invariant-loop-call
-invariant-loop-call l = IsPassed l.timed.in_time l.timed.log l.call-index l.plan l.pasts.items l.found.seen
+invariant-loop-call l = IsPassed l.timed.in_time l.timed.log.now l.call-index l.plan l.pasts.items l.found.seen

@@ -1,4 +1,4 @@
-use Rattle.std.proofs.Common.{◌≢◌, false, subst, ℕ}
+use Rattle.std.proofs.Common.{◌≢◌, subst, ℕ}
 use Rattle.std.proofs.lemmas.List.Elements.{All-contains}
 use Rattle.log_choices.specs.Choices.{BeginsKeptDelete}
 use Rattle.log_choices.specs.Forced.{Comes}
@@ -9,7 +9,7 @@ use Rattle.log_choices.proofs.forced_plan.Plan.is_out.Goals as goal
 
 pub returns-then-follows : goal.returns-then-follows
 returns-then-follows c =
-    let es = c.args.timed.log.now in let in_time = c.args.timed.in_time in
+    let es = c.args.timed.now.log.now in let in_time = c.args.timed.now.in_time in
     let d = c.args.delete in
     let listed = All-contains (λ (e : Delete). BeginsKeptDelete es e.key e.place) c.args.self.now.deletes.items d c.requires.plan.deletes.listed c.requires.listed in
     let kept = subst (λ (x : ℕ). BeginsKeptDelete es x d.place) c.requires.key listed in
@@ -18,7 +18,7 @@ returns-then-follows c =
 
 pub returns-else-follows : goal.returns-else-follows
 returns-else-follows c =
-    let es = c.args.timed.log.now in let in_time = c.args.timed.in_time in
+    let es = c.args.timed.now.log.now in let in_time = c.args.timed.now.in_time in
     let d = c.args.delete in
     let writes = c.args.self.now.writes.items in
     let listed = All-contains (λ (e : Delete). BeginsKeptDelete es e.key e.place) c.args.self.now.deletes.items d c.requires.plan.deletes.listed c.requires.listed in

@@ -8,7 +8,7 @@ use Rattle.log_choices.proofs.forced_plan.Plan.is_replaced.Goals as goal
 
 pub returns-in-loop-number : goal.returns-in-loop-number
 returns-in-loop-number c =
-    let es = c.args.timed.log.now in let in_time = c.args.timed.in_time in
+    let es = c.args.timed.now.log.now in let in_time = c.args.timed.now.in_time in
     let number = get_or c.args.by.now c.loop-number.number-index 0 in
     let other = c.in-Some.other.now in
     let within = get-at c.deref.result.now number other c.in-Some.ensures.lookup.3.0 c.in-Some.ensures.lookup.1 in
@@ -20,5 +20,5 @@ returns-in-loop-number c =
       Contains-get_or c.args.by.now c.loop-number.number-index 0 c.loop-number-test.true,
       at,
       c.if-other-write.true,
-      c.precedes.ensures es other.place c.requires.write past c.if-precedes.true,
+      c.precedes.ensures in_time es other.place c.requires.write past c.if-precedes.true,
     )

@@ -7,7 +7,7 @@ use Rattle.log_choices.proofs.forced_plan.Plan.is_start_left.Goals as goal
 
 pub returns-then-not-is_empty-clause-out : goal.returns-then-not-is_empty-clause-out
 returns-then-not-is_empty-clause-out c =
-    let es = c.args.timed.log.now in let in_time = c.args.timed.in_time in
+    let es = c.args.timed.now.log.now in let in_time = c.args.timed.now.in_time in
     let numbers = c.args.replacing.now in
     let full : length numbers ≢ 0 = eqb-false (length numbers) 0 (sym c.is_empty.ensures ∙ c.if-not-is_empty.true) in
     let n = get_or numbers 0 0 in

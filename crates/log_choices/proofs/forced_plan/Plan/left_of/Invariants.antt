@@ -4,4 +4,4 @@ use Rattle.log_choices.proofs.forced_plan.Plan.left_of.Given as goal
 
 -- those left so far
 abbrev pub invariant-loop-delete : goal.invariant-loop-delete
-invariant-loop-delete l = IsLeft l.timed.in_time l.timed.log l.read.place (take l.delete-index l.deletes) l.left
+invariant-loop-delete l = IsLeft l.timed.in_time l.timed.log.now l.read.place l.read.end (take l.delete-index l.deletes) l.left
