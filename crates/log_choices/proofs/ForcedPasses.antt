@@ -7,7 +7,7 @@ use Rattle.std.specs.List.Sorted.{IsStrictlyIncreasing}
 use Rattle.std.specs.Map.{keys_of}
 use Rattle.std.specs.declared.vec.Vec.{Vec}
 use Rattle.std.proofs.lemmas.List.{length-map, map-append, get_or-map, length-set, get_or-set_same, get_or-set_other}
-use Rattle.std.proofs.lemmas.List.Elements.{All-push}
+use Rattle.std.proofs.lemmas.List.Elements.{All-contains, All-push}
 use Rattle.std.proofs.lemmas.List.Kept.{AllPairs-from_increasing}
 use Rattle.std.proofs.lemmas.List.Quantifiers.{all_pairs_push}
 use Rattle.model_objects.specs.Table.{IsRising, value_at}
@@ -136,10 +136,12 @@ module _ (es : List Event) where
       later
 
   -- a call that is a read that got nothing
-  pub gets-nothing : (a : Call) → Contains (run_calls es) a → IsSmallCall a → (read : NullRead) → read.client ≡ a.client
-      → read.place ≡ a.place → a.call ≡ ReadOf read.key → a.ending ≡ Some GotNothing → GetsNothing es read
-  gets-nothing a listed small read client place call ending = record {
-    small = subst (λ (d : ClientCall). called_key d ≤ MAX_NAME) call small.key;
+  pub gets-nothing : (calls : List Call) → calls ≡ run_calls es → All IsSmallCall calls → (a : Call) → Contains (run_calls es) a
+      → (read : NullRead) → read.client ≡ a.client → read.place ≡ a.place → a.call ≡ ReadOf read.key → a.ending ≡ Some GotNothing
+      → GetsNothing es read
+  gets-nothing calls exact all a listed read client place call ending = record {
+    small = subst (λ (d : ClientCall). called_key d ≤ MAX_NAME) call
+        (All-contains IsSmallCall (run_calls es) a (subst (All IsSmallCall) exact all) listed).key;
     ends = end.0;
     ended = subst (λ (n : ℕ). IsEnded es read.client (ReadOf read.key) n end.0 GotNothing) (sym place)
         (subst (λ (n : ℕ). IsEnded es n (ReadOf read.key) a.place end.0 GotNothing) (sym client)
