@@ -47,48 +47,12 @@ fn forced_at(alloc: Global, log: &EventLog, place: u32) -> Option<Seen> {
     None
 }
 
-/// What is forced of the last of these calls, a read that got nothing.
-fn last_of(alloc: Global, calls: &[Row]) -> Option<Seen> {
-    let log = log_of(alloc, calls)?;
-    forced_at(alloc, &log, log.events().saturating_sub(2))
-}
-
-#[test]
-fn one_client(rt: HostRuntime) {
-    let alloc = rt.alloc();
-    // The write replaced the start, and the delete alone is left.
-    let calls = &[write(0, 0, 5), delete(0, 0), miss(0, 0)];
-    assert_eq!(rt; last_of(alloc, calls), Some(Seen::Delete(2)));
-    // The delete was replaced too, and nothing is left: it has the first delete.
-    let calls = &[
-        write(0, 0, 5),
-        delete(0, 0),
-        write(0, 0, 6),
-        delete(0, 0),
-        write(0, 0, 7),
-        miss(0, 0),
-    ];
-    assert_eq!(rt; last_of(alloc, calls), Some(Seen::Delete(2)));
-    // The delete comes after the read, so the start alone is left.
-    let log = log_of(alloc, &[miss(0, 0), delete(0, 0)]);
-    assert_eq!(rt;
-        log.and_then(|log| forced_at(alloc, &log, 0)),
-        Some(Seen::Start)
-    );
-}
-
-#[test]
-fn more_clients(rt: HostRuntime) {
-    let alloc = rt.alloc();
-    // The deletes of clients 1 and 2 are concurrent.
-    let calls = &[write(0, 0, 5), delete(1, 0), delete(2, 0), miss(0, 0)];
-    assert_eq!(rt; last_of(alloc, calls), None);
-    // Client 1 got the value of client 0, which replaced the start for it.
-    let calls = &[write(0, 0, 5), got(1, 0, 5), delete(2, 0), miss(1, 0)];
-    assert_eq!(rt; last_of(alloc, calls), Some(Seen::Delete(4)));
-    // It got no value, so the start is left too.
-    let calls = &[write(0, 0, 5), delete(2, 0), miss(1, 0)];
-    assert_eq!(rt; last_of(alloc, calls), None);
+/// Whether this is forced of the read that begins at a place of the log of these calls.
+fn is_forced(alloc: Global, calls: &[Row], place: u32, seen: Option<Seen>) -> bool {
+    match log_of(alloc, calls) {
+        Some(log) => forced_at(alloc, &log, place) == seen,
+        None => false,
+    }
 }
 
 /// The calls of two clients. The second's read of key 0 saw the delete of the first, so what the first did before it, also to key 1, comes
@@ -105,62 +69,65 @@ fn in_turn(first: u32, second: u32) -> [Row; 6] {
 }
 
 #[test]
-fn one_forced_read_forces_another(rt: HostRuntime) {
-    let alloc = rt.alloc();
-    let calls = in_turn(0, 1);
-    assert_eq!(rt; last_of(alloc, &calls[..5]), Some(Seen::Delete(4)));
-    assert_eq!(rt; last_of(alloc, &calls), Some(Seen::Delete(2)));
-    // The same where the reads stand first: it takes a second pass.
-    let [a, b, c, d, e, f] = calls;
-    let log = log_of(alloc, &[d, e, f, a, b, c]);
-    assert_eq!(rt;
-        log.and_then(|log| forced_at(alloc, &log, 4)),
-        Some(Seen::Delete(8))
-    );
-}
-
-#[test]
-fn reads_after_one_without_candidates(rt: HostRuntime) {
-    let alloc = rt.alloc();
-    // Client 2 finds nothing of key 2, which it wrote after it had deleted it. The reads of key 0 and 1 are found all the same.
+fn small_logs(rt: HostRuntime) {
     let [a, b, c, d, e, f] = in_turn(0, 1);
-    let calls = &[
-        write(2, 2, 4),
-        delete(2, 2),
-        write(2, 2, 5),
-        miss(2, 2),
-        a,
-        b,
-        c,
-        d,
-        e,
-        f,
+    let [late, gone, new, lost] = [write(2, 2, 4), delete(2, 2), write(2, 2, 5), miss(2, 2)];
+    let rows: [(&[Row], u32, Option<Seen>); 13] = [
+        // The write replaced the start, and the delete alone is left.
+        (
+            &[write(0, 0, 5), delete(0, 0), miss(0, 0)],
+            4,
+            Some(Seen::Delete(2)),
+        ),
+        // The delete comes after the read, so the start alone is left.
+        (&[miss(0, 0), delete(0, 0)], 0, Some(Seen::Start)),
+        // The deletes of clients 1 and 2 are concurrent.
+        (
+            &[write(0, 0, 5), delete(1, 0), delete(2, 0), miss(0, 0)],
+            6,
+            None,
+        ),
+        // Client 1 got the value of client 0, which replaced the start for it. Without that the start is left too.
+        (
+            &[write(0, 0, 5), got(1, 0, 5), delete(2, 0), miss(1, 0)],
+            6,
+            Some(Seen::Delete(4)),
+        ),
+        (&[write(0, 0, 5), delete(2, 0), miss(1, 0)], 4, None),
+        // Nothing is left, and the read has the first delete.
+        (
+            &[late, gone, new, gone, new, lost],
+            10,
+            Some(Seen::Delete(2)),
+        ),
+        // One forced read forces another, in a second pass where they stand first.
+        (&[a, b, c, d, e], 8, Some(Seen::Delete(4))),
+        (&[a, b, c, d, e, f], 10, Some(Seen::Delete(2))),
+        (&[d, e, f, a, b, c], 4, Some(Seen::Delete(8))),
+        // So it is beside a read of which nothing is left.
+        (
+            &[late, gone, new, lost, a, b, c, d, e, f],
+            6,
+            Some(Seen::Delete(2)),
+        ),
+        (
+            &[late, gone, new, lost, a, b, c, d, e, f],
+            18,
+            Some(Seen::Delete(10)),
+        ),
+        (
+            &[d, e, f, a, b, c, late, gone, new, lost],
+            4,
+            Some(Seen::Delete(8)),
+        ),
+        (
+            &[d, e, f, a, b, c, late, gone, new, lost],
+            18,
+            Some(Seen::Delete(14)),
+        ),
     ];
-    let log = log_of(alloc, calls);
-    assert!(rt; log.is_some());
-    if let Some(log) = log {
-        assert_eq!(rt; forced_at(alloc, &log, 6), Some(Seen::Delete(2)));
-        assert_eq!(rt; forced_at(alloc, &log, 16), Some(Seen::Delete(12)));
-        assert_eq!(rt; forced_at(alloc, &log, 18), Some(Seen::Delete(10)));
-    }
-    // So are those of a second pass.
-    let calls = &[
-        d,
-        e,
-        f,
-        a,
-        b,
-        c,
-        write(2, 2, 4),
-        delete(2, 2),
-        write(2, 2, 5),
-        miss(2, 2),
-    ];
-    let log = log_of(alloc, calls);
-    assert!(rt; log.is_some());
-    if let Some(log) = log {
-        assert_eq!(rt; forced_at(alloc, &log, 4), Some(Seen::Delete(8)));
-        assert_eq!(rt; forced_at(alloc, &log, 18), Some(Seen::Delete(14)));
+    for (number, (calls, place, seen)) in rows.iter().enumerate() {
+        assert!(rt; is_forced(rt.alloc(), calls, *place, *seen), "row {number}");
     }
 }
 
@@ -179,6 +146,6 @@ fn keys_with_a_start(rt: HostRuntime) {
         ] {
             assert!(rt; log.push(event).is_ok());
         }
-        assert_eq!(rt; forced_at(alloc, &log, 2), seen);
+        assert!(rt; forced_at(alloc, &log, 2) == seen);
     }
 }
