@@ -2,7 +2,7 @@
 
 use crate::{Seen, forced_reads};
 use log_events::ClientCall::{DeleteOf, ReadOf, WriteTo};
-use log_events::Ending::{Answered, Failed, Got, GotNothing};
+use log_events::Ending::{Answered, Failed, Got, GotNothing, Lost};
 use log_events::Event::{Begins, Ends, Starts};
 use log_events::{ClientCall, Ending, EventLog};
 use std::alloc::Global;
@@ -36,9 +36,9 @@ fn log_of(alloc: Global, calls: &[Row]) -> Option<EventLog> {
     Some(log)
 }
 
-/// What is forced of the read at a place.
-fn forced_at(alloc: Global, log: &EventLog, place: u32) -> Option<Seen> {
-    let forced = forced_reads(alloc, log, false).ok()?;
+/// What is forced of the read at a place, in the order of time or not.
+fn forced_at(alloc: Global, log: &EventLog, in_time: bool, place: u32) -> Option<Seen> {
+    let forced = forced_reads(alloc, log, in_time).ok()?;
     for (read, seen) in forced.entries() {
         if *read == place {
             return Some(*seen);
@@ -48,9 +48,9 @@ fn forced_at(alloc: Global, log: &EventLog, place: u32) -> Option<Seen> {
 }
 
 /// Whether this is forced of the read that begins at a place of the log of these calls.
-fn is_forced(alloc: Global, calls: &[Row], place: u32, seen: Option<Seen>) -> bool {
+fn is_forced(alloc: Global, calls: &[Row], in_time: bool, place: u32, seen: Option<Seen>) -> bool {
     match log_of(alloc, calls) {
-        Some(log) => forced_at(alloc, &log, place) == seen,
+        Some(log) => forced_at(alloc, &log, in_time, place) == seen,
         None => false,
     }
 }
@@ -127,7 +127,10 @@ fn small_logs(rt: HostRuntime) {
         ),
     ];
     for (number, (calls, place, seen)) in rows.iter().enumerate() {
-        assert!(rt; is_forced(rt.alloc(), calls, *place, *seen), "row {number}");
+        assert!(rt;
+            is_forced(rt.alloc(), calls, false, *place, *seen),
+            "row {number}"
+        );
     }
 }
 
@@ -146,6 +149,60 @@ fn keys_with_a_start(rt: HostRuntime) {
         ] {
             assert!(rt; log.push(event).is_ok());
         }
-        assert!(rt; forced_at(alloc, &log, 2) == seen);
+        assert!(rt; forced_at(alloc, &log, false, 2) == seen);
+    }
+}
+
+#[test]
+fn in_the_order_of_time(rt: HostRuntime) {
+    let rows: [(&[Row], bool, u32, Option<Seen>); 7] = [
+        // The delete of another client begins after the read had ended.
+        (&[miss(0, 0), delete(1, 0)], true, 0, Some(Seen::Start)),
+        (&[miss(0, 0), delete(1, 0)], false, 0, None),
+        // The start was replaced, and the delete is late: nothing is left.
+        (
+            &[write(0, 0, 5), miss(0, 0), delete(1, 0)],
+            true,
+            2,
+            Some(Seen::Start),
+        ),
+        (
+            &[write(0, 0, 5), miss(0, 0), delete(1, 0)],
+            false,
+            2,
+            Some(Seen::Delete(4)),
+        ),
+        // Of two deletes the first one was possible.
+        (
+            &[delete(0, 0), write(0, 0, 5), miss(0, 0), delete(1, 0)],
+            true,
+            4,
+            Some(Seen::Delete(0)),
+        ),
+        // A client's own later delete is none that it saw, in any order.
+        (
+            &[delete(0, 0), write(0, 0, 5), miss(0, 0), delete(0, 0)],
+            false,
+            4,
+            Some(Seen::Delete(0)),
+        ),
+        // A lost delete does not hide the write before it, which replaced the start.
+        (
+            &[
+                write(0, 0, 5),
+                (0, DeleteOf(0), Lost),
+                write(0, 1, 6),
+                miss(0, 0),
+            ],
+            false,
+            6,
+            Some(Seen::Delete(2)),
+        ),
+    ];
+    for (number, (calls, in_time, place, seen)) in rows.iter().enumerate() {
+        assert!(rt;
+            is_forced(rt.alloc(), calls, *in_time, *place, *seen),
+            "row {number}"
+        );
     }
 }
