@@ -193,7 +193,7 @@ ending_extends log (Some (DeleteOf x)) nothing = extends-same log
 ending_extends log (Some (DeleteOf x)) failed = extends-same log
 ending_extends log (Some (DeleteOf x)) lost = extends-same log
 
-said_extends : (log : Log) (pending : Option ClientCall) (said : Said) → Extends log (with_said log pending said)
+pub said_extends : (log : Log) (pending : Option ClientCall) (said : Said) → Extends log (with_said log pending said)
 said_extends log pending (start key value) = pair_extends log key value
 said_extends log pending (begin client call) =
     extends-more log (with_client log client) (with_call (with_client log client) call) (client_extends log client) (call_extends (with_client log client) call)
@@ -202,7 +202,7 @@ said_extends log pending (end client ending) =
     (ending_extends (with_client log client) pending ending)
 said_extends log pending ordered = extends-same log
 
-event_extends : (log : Log) (n : ℕ) (e : Event) → Extends log (with_event log n e)
+pub event_extends : (log : Log) (n : ℕ) (e : Event) → Extends log (with_event log n e)
 event_extends log n e = extends-push log (with_event log n e) n e refl refl refl refl refl refl
 
 -- the line of each event so far: its number has one more before it than there are

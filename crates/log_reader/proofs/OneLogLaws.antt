@@ -96,7 +96,7 @@ adds_same n log line a b allowed first second =
 no_event : (log : Log) (pending : Option ClientCall) (event : Event) → event_of log pending ordered ≡ Some event → ⊥
 no_event log pending event is = absurd cc
 
-order_clash : (n : ℕ) (log : Log) (line : List ℕ) (a b : Log) → AddsEvent n log line a → SaysOrder log line b → ⊥
+pub order_clash : (n : ℕ) (log : Log) (line : List ℕ) (a b : Log) → AddsEvent n log line a → SaysOrder log line b → ⊥
 order_clash n log line a b adds says =
     let said : adds.said ≡ ordered = said_same adds.value says.value adds.said ordered (one_value line adds.value says.value adds.json says.json) adds.form says.form in
     no_event log adds.pending adds.event (subst (λ (s : Said). event_of log adds.pending s ≡ Some adds.event) said adds.says)
@@ -283,7 +283,7 @@ no_feed : (line rest : List ℕ) → IsFree (line ++ 10 ∷ rest) → ⊥
 no_feed [] rest free = feed_clash 10 rest free refl
 no_feed (b ∷ line) rest free = no_feed line rest (All-tail (λ c. c ≢ 10) b (line ++ 10 ∷ rest) free)
 
-free_clash : (s line rest : List ℕ) → IsFree s → s ≡ line ++ 10 ∷ rest → ⊥
+pub free_clash : (s line rest : List ℕ) → IsFree s → s ≡ line ++ 10 ∷ rest → ⊥
 free_clash s line rest free is = no_feed line rest (subst IsFree is free)
 
 cons_head : (b c : ℕ) (x y : List ℕ) → b ∷ x ≡ c ∷ y → b ≡ c
@@ -292,7 +292,7 @@ cons_head b c x y is = cc
 cons_tail : (b c : ℕ) (x y : List ℕ) → b ∷ x ≡ c ∷ y → x ≡ y
 cons_tail b c x y is = cc
 
-same_line : (l m x y : List ℕ) → IsFree l → IsFree m → l ++ 10 ∷ x ≡ m ++ 10 ∷ y → (l ≡ m) × (x ≡ y)
+pub same_line : (l m x y : List ℕ) → IsFree l → IsFree m → l ++ 10 ∷ x ≡ m ++ 10 ∷ y → (l ≡ m) × (x ≡ y)
 same_line [] [] x y free other is = (refl, cons_tail 10 10 x y is)
 same_line [] (c ∷ m) x y free other is = absurd (feed_clash c m other (sym (cons_head 10 c x (m ++ 10 ∷ y) is)))
 same_line (b ∷ l) [] x y free other is = absurd (feed_clash b l free (cons_head b 10 (l ++ 10 ∷ x) y is))
