@@ -5,7 +5,7 @@ use Rattle.app_engine.specs.declared.failure.RunError.TheVariants as failures
 use Rattle.log_reader.specs.declared.log_fault.LogFault.{LogFault}
 use Rattle.log_reader.specs.declared.log_fault.LogFault.TheVariants as faults
 use Rattle.log_reader.specs.declared.refusal.Reason.{Reason}
-use Rattle.log_reader.specs.declared.refusal.Reason.TheVariants.{NotJson, TooLong, NoForm, LateStart, CallPending, NothingPending, WrongEnd}
+use Rattle.log_reader.specs.declared.refusal.Reason.TheVariants.{NotJson, TooLong, NoForm, LateStart, CallPending, NothingPending, WrongEnd, LateOrder}
 use Rattle.log_reader.specs.declared.refusal.Refusal.{Refusal}
 use Rattle.log_reader.specs.Codes.{code_of}
 use Rattle.app_logs.specs.declared.failure.LogError.{LogError}
@@ -37,6 +37,7 @@ words_for LateStart = codes "a start after the first begin, or a second start of
 words_for CallPending = codes "a begin of a client that has a call pending"
 words_for NothingPending = codes "the end of a call of a client that has none pending"
 words_for WrongEnd = codes "an answer that the pending call does not have: \"ok\" ends a write or a delete, a value or null ends a read"
+words_for LateOrder = codes "the order of time is said after an event, or twice: [\"order\",\"time\"] is the first event of a log"
 
 -- `refused N LINE`, and in a second line what is wrong there, with its details
 abbrev pub refusal_lines : Refusal → List ℕ → List ℕ

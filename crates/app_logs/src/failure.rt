@@ -129,5 +129,8 @@ fn words_of(reason: Reason) -> &'static str
         Reason::WrongEnd => {
             r#"an answer that the pending call does not have: "ok" ends a write or a delete, a value or null ends a read"#
         }
+        Reason::LateOrder => {
+            r#"the order of time is said after an event, or twice: ["order","time"] is the first event of a log"#
+        }
     }
 }

@@ -31,7 +31,7 @@ fn rest_for(alloc: Global, reader: &EventReader, reason: Reason) -> Result<Strin
         Reason::CallPending | Reason::NothingPending | Reason::WrongEnd => {
             call_rest(alloc, reader, reason)
         }
-        Reason::TooLong | Reason::LateStart => Ok(String::new(alloc)),
+        Reason::TooLong | Reason::LateStart | Reason::LateOrder => Ok(String::new(alloc)),
     }
 }
 

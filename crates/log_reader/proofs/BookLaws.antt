@@ -1,5 +1,5 @@
 -- Logs whose events have names.
-use Rattle.std.proofs.Common.{◌≡◌, ◌<◌, ℕ, List, [], ◌∷◌, ◌++◌, length, sym, ap, subst, ◌∙◌, arith, append_assoc}
+use Rattle.std.proofs.Common.{◌≡◌, ◌≢◌, ◌<◌, ℕ, List, [], ◌∷◌, ◌++◌, length, refl, sym, ap, subst, ◌∙◌, arith, append_assoc}
 use Rattle.std.specs.List.{All}
 use Rattle.std.proofs.lemmas.List.{append-nil, length-append}
 use Rattle.std.proofs.lemmas.List.Elements.{All-weaker}
@@ -11,7 +11,7 @@ use Rattle.log_events.specs.declared.event.Event.{Event}
 use Rattle.log_events.specs.declared.event.Event.TheVariants.{Starts, Begins, Ends}
 use Rattle.log_reader.specs.BookSteps.{IsBook}
 use Rattle.log_reader.specs.Forms.{write}
-use Rattle.log_reader.specs.Logs.{Log, call_of, key_number, value_number, with_key}
+use Rattle.log_reader.specs.Logs.{Log, call_of, key_number, value_number, with_key, with_order}
 use Rattle.log_reader.specs.Names.{Name}
 use Rattle.log_reader.specs.Readings.{Extends, Grows, IsCallNamed, IsEndingNamed, IsNamed}
 
@@ -33,7 +33,13 @@ extends-same log = record {
   values = grows-same log.values;
   events = grows-same log.events;
   lines = grows-same log.lines;
+  in_time = λ so. so;
+  settled = λ some. refl;
 }
+
+still-some : {X : Type 0} (a b : List X) → Grows a b → a ≢ [] → b ≢ []
+still-some [] b grows some is = some refl
+still-some (x ∷ a) b (more, grown) some is = let none : x ∷ (a ++ more) ≡ [] = sym grown ∙ is in absurd cc
 
 pub extends-more : (a b c : Log) → Extends a b → Extends b c → Extends a c
 extends-more a b c first second = record {
@@ -42,6 +48,8 @@ extends-more a b c first second = record {
   values = grows-more a.values b.values c.values first.values second.values;
   events = grows-more a.events b.events c.events first.events second.events;
   lines = grows-more a.lines b.lines c.lines first.lines second.lines;
+  in_time = λ so. second.in_time (first.in_time so);
+  settled = λ some. second.settled (still-some a.events b.events first.events some) ∙ first.settled some;
 }
 
 -- ---- names of events
@@ -91,6 +99,8 @@ module _ (log : Log) where
     values = grows-same log.values;
     events = grows-same log.events;
     lines = grows-same log.lines;
+    in_time = λ so. so;
+    settled = λ some. refl;
   }
 
   pub extends-keys : (table : List Name) → Grows log.keys table → Extends log (record log { keys = table })
@@ -100,6 +110,8 @@ module _ (log : Log) where
     values = grows-same log.values;
     events = grows-same log.events;
     lines = grows-same log.lines;
+    in_time = λ so. so;
+    settled = λ some. refl;
   }
 
   pub extends-values : (table : List Name) → Grows log.values table → Extends log (record log { values = table })
@@ -109,14 +121,30 @@ module _ (log : Log) where
     values = grows;
     events = grows-same log.events;
     lines = grows-same log.lines;
+    in_time = λ so. so;
+    settled = λ some. refl;
   }
 
 pub extends-push : (a b : Log) (n : ℕ) (e : Event) → b.clients ≡ a.clients → b.keys ≡ a.keys → b.values ≡ a.values → b.events ≡ a.events ++ e ∷ []
-    → b.lines ≡ a.lines ++ n ∷ [] → Extends a b
-extends-push a b n e clients keys values events lines = record {
+    → b.lines ≡ a.lines ++ n ∷ [] → b.in_time ≡ a.in_time → Extends a b
+extends-push a b n e clients keys values events lines in_time = record {
   clients = ([], clients ∙ sym (append-nil a.clients));
   keys = ([], keys ∙ sym (append-nil a.keys));
   values = ([], values ∙ sym (append-nil a.values));
   events = (e ∷ [], events);
   lines = (n ∷ [], lines);
+  in_time = λ so. in_time ∙ so;
+  settled = λ some. in_time;
 }
+
+-- the order of time was said
+pub extends-order : (a b : Log) → a.events ≡ [] → b ≡ with_order a → Extends a b
+extends-order a b none is = subst (λ (l : Log). Extends a l) (sym is) (record {
+  clients = grows-same a.clients;
+  keys = grows-same a.keys;
+  values = grows-same a.values;
+  events = grows-same a.events;
+  lines = grows-same a.lines;
+  in_time = λ so. refl;
+  settled = λ some. absurd (some none);
+})

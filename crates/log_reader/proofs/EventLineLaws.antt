@@ -13,11 +13,11 @@ use Rattle.log_events.specs.declared.event.Ending.TheVariants.{Answered, Got, Go
 use Rattle.log_events.specs.declared.event.Event.{Event}
 use Rattle.log_events.specs.declared.event.Event.TheVariants.{Starts, Begins, Ends}
 use Rattle.log_reader.specs.EventLines.{IsLineOf, IsSaidIn, Says, SaysCall, SaysEnding}
-use Rattle.log_reader.specs.Forms.{Said, SaidCall, SaidEnding, start, begin, end, write, read, delete, answer, nothing, failed, lost, said_at}
+use Rattle.log_reader.specs.Forms.{Said, SaidCall, SaidEnding, start, begin, end, ordered, write, read, delete, answer, nothing, failed, lost, said_at}
 use Rattle.log_reader.specs.Logs.{AddsEvent, EndsBy, Follow, IsFree, IsLogOf, Log, Takes, call_of, ended_lines, event_of, no_log, with_call, with_client, with_ending, with_event, with_key, with_said, with_value}
 use Rattle.log_reader.specs.Names.{Name, number_in, same_name, text_name, with_name}
 use Rattle.log_reader.specs.Readings.{Extends, Grows}
-use Rattle.log_reader.proofs.BookLaws.{extends-clients, extends-keys, extends-more, extends-push, extends-same, extends-values}
+use Rattle.log_reader.proofs.BookLaws.{extends-clients, extends-keys, extends-more, extends-order, extends-push, extends-same, extends-values}
 use Rattle.log_reader.proofs.TableLaws.{with_name-grows}
 use Rattle.log_reader.proofs.TakeLaws.{said_events}
 
@@ -104,6 +104,7 @@ still a b (begin client said) (Ends c ending) extends says = says
 still a b (end client said) (Starts x v) extends says = says
 still a b (end client said) (Begins c call) extends says = says
 still a b (end client said) (Ends c ending) extends (first, second) = (grown_at a.clients b.clients c client extends.clients first, ending_still a b said ending extends second)
+still a b ordered e extends says = absurd says
 
 -- ---- an event is what was said
 
@@ -134,6 +135,7 @@ event_said log pending (start key value) e is =
 event_said log pending (begin client said) e is =
     let kept = ap (λ (l : List Name). slice_get l (number_in log.clients client)) (client_kept log client said) ∙ name_at_number log.clients client in
     subst (λ (f : Event). Says (with_said log pending (begin client said)) (begin client said) f) (known_event _ e is) (kept, call_said log client said)
+event_said log pending ordered e is = no_ending e is
 event_said log None (end client said) e is = no_ending e is
 event_said log (Some (WriteTo x v)) (end client failed) e is = subst (λ (f : Event). Says (with_client log client) (end client failed) f) (known_event _ e is) (name_at_number log.clients client, tt)
 event_said log (Some (ReadOf x)) (end client failed) e is = subst (λ (f : Event). Says (with_client log client) (end client failed) f) (known_event _ e is) (name_at_number log.clients client, tt)
@@ -191,16 +193,17 @@ ending_extends log (Some (DeleteOf x)) nothing = extends-same log
 ending_extends log (Some (DeleteOf x)) failed = extends-same log
 ending_extends log (Some (DeleteOf x)) lost = extends-same log
 
-said_extends : (log : Log) (pending : Option ClientCall) (said : Said) → Extends log (with_said log pending said)
+pub said_extends : (log : Log) (pending : Option ClientCall) (said : Said) → Extends log (with_said log pending said)
 said_extends log pending (start key value) = pair_extends log key value
 said_extends log pending (begin client call) =
     extends-more log (with_client log client) (with_call (with_client log client) call) (client_extends log client) (call_extends (with_client log client) call)
 said_extends log pending (end client ending) =
     extends-more log (with_client log client) (with_ending (with_client log client) pending ending) (client_extends log client)
     (ending_extends (with_client log client) pending ending)
+said_extends log pending ordered = extends-same log
 
-event_extends : (log : Log) (n : ℕ) (e : Event) → Extends log (with_event log n e)
-event_extends log n e = extends-push log (with_event log n e) n e refl refl refl refl refl
+pub event_extends : (log : Log) (n : ℕ) (e : Event) → Extends log (with_event log n e)
+event_extends log n e = extends-push log (with_event log n e) n e refl refl refl refl refl refl
 
 -- the line of each event so far: its number has one more before it than there are
 call_lines : (log : Log) (said : SaidCall) → (with_call log said).lines ≡ log.lines
@@ -230,6 +233,7 @@ said_lines : (log : Log) (pending : Option ClientCall) (said : Said) → (with_s
 said_lines log pending (start key value) = refl
 said_lines log pending (begin client call) = call_lines (with_client log client) call
 said_lines log pending (end client ending) = ending_lines (with_client log client) pending ending
+said_lines log pending ordered = refl
 
 -- ---- the events of some lines
 
@@ -320,7 +324,15 @@ known_takes lines a b line known (inl blank) = subst (λ (l : Log). Known (lines
   numbered = known.numbered;
   each = λ i e is. found_still lines (line ∷ []) a a i e (extends-same a) (known.each i e is);
 })
-known_takes lines a b line known (inr adds) = known_more lines a b line known adds
+known_takes lines a b line known (inr (inl adds)) = known_more lines a b line known adds
+known_takes lines a b line known (inr (inr says)) =
+    let extends = extends-order a b says.follows.0 says.added in
+    let events : b.events ≡ a.events = ap (λ (l : Log). l.events) says.added in
+    let numbers : b.lines ≡ a.lines = ap (λ (l : Log). l.lines) says.added in
+    record {
+      numbered = ap length numbers ∙ known.numbered ∙ ap length (sym events);
+      each = λ i e is. found_still lines (line ∷ []) a b i e extends (known.each i e (ap (λ (es : List Event). slice_get es i) (sym events) ∙ is));
+    }
 
 known_follow : (lines more : List (List ℕ)) (a b : Log) → Known lines a → Follow (length lines + 1) a more b → Known (lines ++ more) b
 unfolding Follow

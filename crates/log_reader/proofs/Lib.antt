@@ -13,4 +13,5 @@ pub mod NameLaws
 pub mod SpellLaws
 pub mod NameTextLaws
 pub mod EventLineLaws
+pub mod OrderLaws
 pub mod FormLaws

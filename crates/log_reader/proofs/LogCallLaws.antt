@@ -1,6 +1,6 @@
 -- The read calls for a line more of a log.
-use Rattle.std.proofs.Common.{◌≡◌, ◌≢◌, ◌+◌, ℕ, List, Option, None, Some, Result, Ok, Err, refl, add-one, arith, inl, inr}
-use Rattle.json_lines.specs.ReadCalls.{CallOutcome, FindsBy, GoOn, GoOnAtMost, GoOnForLines, EndsInLine}
+use Rattle.std.proofs.Common.{◌≢◌, ◌+◌, ℕ, List, Option, Some, Ok, Err, refl, add-one, arith, inl, inr}
+use Rattle.json_lines.specs.ReadCalls.{CallOutcome, FindsBy, GoOnAtMost, GoOnForLines}
 use Rattle.json_lines.proofs.ReadCallLaws.{go_on_none}
 use Rattle.json_lines.specs.declared.fault.Fault.{Fault}
 use Rattle.json_lines.specs.declared.fault.Fault.TheVariants as faults

@@ -11,12 +11,12 @@ use Rattle.log_events.specs.Events.{IsAllowed, IsAt, IsOpen}
 use Rattle.log_events.specs.declared.event.ClientCall.{ClientCall}
 use Rattle.log_events.specs.declared.event.Event.{Event}
 use Rattle.log_events.specs.declared.event.Event.TheVariants.{Starts, Begins, Ends}
-use Rattle.log_reader.specs.Forms.{Said, SaidCall, SaidEnding, start, begin, end, said_at}
-use Rattle.log_reader.specs.Logs.{AddsEvent, BeginsBy, EndsBy, EndsLine, Follow, IsFree, IsFull, IsLogOf, IsNoJson, IsPending, IsPendingAt, IsRefused, IsRefusedLog, IsTorn, IsUnsaid, Log, MayFollow, Takes, client_number, call_of, ending_of, ended_lines, event_of, key_number, no_log, value_number, with_event, with_said}
+use Rattle.log_reader.specs.Forms.{Said, SaidCall, SaidEnding, start, begin, end, ordered, said_at}
+use Rattle.log_reader.specs.Logs.{AddsEvent, BeginsBy, EndsBy, EndsLine, Follow, IsFree, IsFull, IsLogOf, IsNoJson, IsPending, IsPendingAt, IsRefused, IsRefusedLog, IsTorn, IsUnsaid, Log, MayFollow, MayOrder, SaysOrder, Takes, client_number, call_of, ending_of, ended_lines, event_of, key_number, no_log, value_number, with_event, with_said}
 use Rattle.log_reader.proofs.TakeLaws.{said_events}
 use Rattle.log_reader.specs.declared.limits.TheConstants.{MAX_LINE_BYTES}
 use Rattle.log_reader.specs.declared.refusal.Reason.{Reason}
-use Rattle.log_reader.specs.declared.refusal.Reason.TheVariants.{NotJson, TooLong, NoForm, LateStart, CallPending, NothingPending, WrongEnd}
+use Rattle.log_reader.specs.declared.refusal.Reason.TheVariants.{NotJson, TooLong, NoForm, LateStart, CallPending, NothingPending, WrongEnd, LateOrder}
 use Rattle.log_reader.specs.declared.refusal.Refusal.{Refusal}
 
 -- ---- a client has one pending call
@@ -70,6 +70,7 @@ pending_same log allowed said other p q is first second = by said p q first (sub
     by (start key value) p q first second = first ∙ sym second
     by (begin client call) p q first second = first ∙ sym second
     by (end client ending) p q first second = one_pending log.events allowed (client_number log client) p q first second
+    by ordered p q first second = first ∙ sym second
 
 said_same : (d e : Data) (said other : Said) → d ≡ e → said_at d ≡ Some said → said_at e ≡ Some other → said ≡ other
 said_same d e said other is first second =
@@ -91,16 +92,31 @@ adds_same n log line a b allowed first second =
     ∙ ap (λ (s : Said). with_event (with_said log second.pending s) n first.event) said
     ∙ ap (λ (e : Event). with_event (with_said log second.pending second.said) n e) event ∙ sym second.added
 
+-- the order of time is no event
+no_event : (log : Log) (pending : Option ClientCall) (event : Event) → event_of log pending ordered ≡ Some event → ⊥
+no_event log pending event is = absurd cc
+
+pub order_clash : (n : ℕ) (log : Log) (line : List ℕ) (a b : Log) → AddsEvent n log line a → SaysOrder log line b → ⊥
+order_clash n log line a b adds says =
+    let said : adds.said ≡ ordered = said_same adds.value says.value adds.said ordered (one_value line adds.value says.value adds.json says.json) adds.form says.form in
+    no_event log adds.pending adds.event (subst (λ (s : Said). event_of log adds.pending s ≡ Some adds.event) said adds.says)
+
 pub takes_same : (n : ℕ) (log : Log) (line : List ℕ) (a b : Log) → IsAllowed log.events → Takes n log line a → Takes n log line b → a ≡ b
 takes_same n log line a b allowed (inl first) (inl second) = first.2 ∙ sym second.2
-takes_same n log line a b allowed (inl first) (inr second) = let f = first.1 in let s = second.full.1 in absurd cc
-takes_same n log line a b allowed (inr first) (inl second) = let f = first.full.1 in let s = second.1 in absurd cc
-takes_same n log line a b allowed (inr first) (inr second) = adds_same n log line a b allowed first second
+takes_same n log line a b allowed (inl first) (inr (inl second)) = let f = first.1 in let s = second.full.1 in absurd cc
+takes_same n log line a b allowed (inl first) (inr (inr second)) = let f = first.1 in let s = second.full.1 in absurd cc
+takes_same n log line a b allowed (inr (inl first)) (inl second) = let f = first.full.1 in let s = second.1 in absurd cc
+takes_same n log line a b allowed (inr (inr first)) (inl second) = let f = first.full.1 in let s = second.1 in absurd cc
+takes_same n log line a b allowed (inr (inl first)) (inr (inl second)) = adds_same n log line a b allowed first second
+takes_same n log line a b allowed (inr (inl first)) (inr (inr second)) = absurd (order_clash n log line a b first second)
+takes_same n log line a b allowed (inr (inr first)) (inr (inl second)) = absurd (order_clash n log line b a second first)
+takes_same n log line a b allowed (inr (inr first)) (inr (inr second)) = first.added ∙ sym second.added
 
 -- the events stay a log
 takes_allowed : (n : ℕ) (log : Log) (line : List ℕ) (after : Log) → IsAllowed log.events → Takes n log line after → IsAllowed after.events
 takes_allowed n log line after allowed (inl blank) = subst (λ (l : Log). IsAllowed l.events) (sym blank.2) allowed
-takes_allowed n log line after allowed (inr adds) =
+takes_allowed n log line after allowed (inr (inr says)) = subst (λ (l : Log). IsAllowed l.events) (sym says.added) allowed
+takes_allowed n log line after allowed (inr (inl adds)) =
     let same : after.events ≡ log.events ++ adds.event ∷ [] =
     ap (λ (l : Log). l.events) adds.added ∙ ap (λ (es : List Event). es ++ adds.event ∷ []) (said_events log adds.pending adds.said) in
     subst (λ (es : List Event). IsAllowed es) (sym same) adds.follows
@@ -112,11 +128,17 @@ none_allowed j e at = absurd cc
 
 full_taken : (n : ℕ) (log : Log) (line : List ℕ) (after : Log) → Takes n log line after → length line ≤ MAX_LINE_BYTES
 full_taken n log line after (inl blank) = blank.0
-full_taken n log line after (inr adds) = adds.full.0
+full_taken n log line after (inr (inl adds)) = adds.full.0
+full_taken n log line after (inr (inr says)) = says.full.0
 
-taken_full : (n : ℕ) (log : Log) (line : List ℕ) (after : Log) → Takes n log line after → IsFull line → AddsEvent n log line after
+taken_full : (n : ℕ) (log : Log) (line : List ℕ) (after : Log) → Takes n log line after → IsFull line → AddsEvent n log line after ⊎ SaysOrder log line after
 taken_full n log line after (inl blank) full = let b = blank.1 in let f = full.1 in absurd cc
-taken_full n log line after (inr adds) full = adds
+taken_full n log line after (inr says) full = says
+
+taken_json : (n : ℕ) (log : Log) (line : List ℕ) (after : Log) → Takes n log line after → IsFull line → (d : Data) × IsJson line d
+taken_json n log line after (inl blank) full = let b = blank.1 in let f = full.1 in absurd cc
+taken_json n log line after (inr (inl adds)) full = (adds.value, adds.json)
+taken_json n log line after (inr (inr says)) full = (says.value, says.json)
 
 -- what is said and follows is not refused
 said_clash : (log : Log) (said : Said) (pending : Option ClientCall) (event : Event) (reason : Reason) → IsAllowed log.events → IsPendingAt log said pending
@@ -134,6 +156,7 @@ said_clash log (end client ending) (Some call) event WrongEnd allowed is_pending
     let never : ending_of log call ending ≡ None = ap (λ (x : ClientCall). ending_of log x ending) one ∙ none in
     let nothing_said : event_of log (Some call) (end client ending) ≡ None = ap (option_map (Ends (client_number log client))) never in
     absurd cc
+said_clash log ordered pending event LateOrder allowed is_pending says follows unsaid = absurd (no_event log pending event says)
 said_clash log said pending event reason allowed is_pending says follows unsaid = absurd unsaid
 
 -- why a line is refused, by what it has in it
@@ -151,6 +174,7 @@ why log line LateStart (full, (d, said, json, form, is)) = unsaid full d said js
 why log line CallPending (full, (d, said, json, form, is)) = unsaid full d said json form is
 why log line NothingPending (full, (d, said, json, form, is)) = unsaid full d said json form is
 why log line WrongEnd (full, (d, said, json, form, is)) = unsaid full d said json form is
+why log line LateOrder (full, (d, said, json, form, is)) = unsaid full d said json form is
 
 adds_clash : (n : ℕ) (log : Log) (line : List ℕ) (after : Log) (reason : Reason) → IsAllowed log.events → AddsEvent n log line after → Why log line reason → ⊥
 adds_clash n log line after reason allowed adds (too_long long is) = let few = adds.full.0 in omega arith
@@ -161,6 +185,25 @@ adds_clash n log line after reason allowed adds (no_form full d json none is) =
 adds_clash n log line after reason allowed adds (unsaid full d said json form is) =
     let same : said ≡ adds.said = said_same d adds.value said adds.said (one_value line d adds.value json adds.json) form adds.form in
     said_clash log adds.said adds.pending adds.event reason allowed adds.is_pending adds.says adds.follows (subst (λ (s : Said). IsUnsaid log s reason) same is)
+
+late_order : (log : Log) (reason : Reason) → IsUnsaid log ordered reason → (reason ≡ LateOrder) × (¬ MayOrder log)
+late_order log LateOrder is = (refl, is)
+late_order log reason is = absurd is
+
+says_clash : (log : Log) (line : List ℕ) (after : Log) (reason : Reason) → SaysOrder log line after → Why log line reason → ⊥
+says_clash log line after reason says (too_long long is) = let few = says.full.0 in omega arith
+says_clash log line after reason says (no_json full none is) = none says.value says.json
+says_clash log line after reason says (no_form full d json none is) =
+    let same : said_at d ≡ said_at says.value = ap said_at (one_value line d says.value json says.json) in
+    let form = says.form in absurd cc
+says_clash log line after reason says (unsaid full d said json form is) =
+    let same : said ≡ ordered = said_same d says.value said ordered (one_value line d says.value json says.json) form says.form in
+    (late_order log reason (subst (λ (s : Said). IsUnsaid log s reason) same is)).1 says.follows
+
+taken_clash : (n : ℕ) (log : Log) (line : List ℕ) (after : Log) (reason : Reason) → IsAllowed log.events → AddsEvent n log line after ⊎ SaysOrder log line after
+    → Why log line reason → ⊥
+taken_clash n log line after reason allowed (inl adds) found = adds_clash n log line after reason allowed adds found
+taken_clash n log line after reason allowed (inr says) found = says_clash log line after reason says found
 
 full_why : (log : Log) (line : List ℕ) (reason : Reason) → Why log line reason → (MAX_LINE_BYTES < length line) ⊎ IsFull line
 full_why log line reason (too_long long is) = inl long
@@ -173,7 +216,7 @@ takes_clash n log line after reason allowed takes refused =
     let found = why log line reason refused in
     elim (full_why log line reason found) [
       | inl long ↦ let few = full_taken n log line after takes in omega arith
-      | inr full ↦ adds_clash n log line after reason allowed (taken_full n log line after takes full) found
+      | inr full ↦ taken_clash n log line after reason allowed (taken_full n log line after takes full) found
     ]
 
 -- ---- a line is refused for one reason
@@ -205,6 +248,7 @@ same_unsaid : (log : Log) (said : Said) (r s : Reason) → IsUnsaid log said r �
 same_unsaid log (start key value) r s first second = late_start log key value r first ∙ sym (late_start log key value s second)
 same_unsaid log (begin client call) r s first second = call_pending log client call r first ∙ sym (call_pending log client call s second)
 same_unsaid log (end client ending) r s first second = same_end log client ending r s (why_end log client ending r first) (why_end log client ending s second)
+same_unsaid log ordered r s first second = (late_order log r first).0 ∙ sym (late_order log s second).0
 
 json_why : (log : Log) (line : List ℕ) (r s : Reason) (d e : Data) → IsJson line d → IsJson line e → said_at d ≡ None → (said : Said) → said_at e ≡ Some said → r ≡ s
 json_why log line r s d e json other none said form =
@@ -239,7 +283,7 @@ no_feed : (line rest : List ℕ) → IsFree (line ++ 10 ∷ rest) → ⊥
 no_feed [] rest free = feed_clash 10 rest free refl
 no_feed (b ∷ line) rest free = no_feed line rest (All-tail (λ c. c ≢ 10) b (line ++ 10 ∷ rest) free)
 
-free_clash : (s line rest : List ℕ) → IsFree s → s ≡ line ++ 10 ∷ rest → ⊥
+pub free_clash : (s line rest : List ℕ) → IsFree s → s ≡ line ++ 10 ∷ rest → ⊥
 free_clash s line rest free is = no_feed line rest (subst IsFree is free)
 
 cons_head : (b c : ℕ) (x y : List ℕ) → b ∷ x ≡ c ∷ y → b ≡ c
@@ -248,7 +292,7 @@ cons_head b c x y is = cc
 cons_tail : (b c : ℕ) (x y : List ℕ) → b ∷ x ≡ c ∷ y → x ≡ y
 cons_tail b c x y is = cc
 
-same_line : (l m x y : List ℕ) → IsFree l → IsFree m → l ++ 10 ∷ x ≡ m ++ 10 ∷ y → (l ≡ m) × (x ≡ y)
+pub same_line : (l m x y : List ℕ) → IsFree l → IsFree m → l ++ 10 ∷ x ≡ m ++ 10 ∷ y → (l ≡ m) × (x ≡ y)
 same_line [] [] x y free other is = (refl, cons_tail 10 10 x y is)
 same_line [] (c ∷ m) x y free other is = absurd (feed_clash c m other (sym (cons_head 10 c x (m ++ 10 ∷ y) is)))
 same_line (b ∷ l) [] x y free other is = absurd (feed_clash b l free (cons_head b 10 (l ++ 10 ∷ x) y is))
@@ -332,8 +376,8 @@ both text ls ms a b x y first second = compare 1 no_log none_allowed ls ms a b x
 
 ends_same : (n : ℕ) (log : Log) (line : List ℕ) (t u : Bool) (a b : Log) → IsAllowed log.events → EndsBy n log line t a → EndsBy n log line u b → (a ≡ b) × (t ≡ u)
 ends_same n log line true true a b allowed first second = (first.1 ∙ sym second.1, refl)
-ends_same n log line true false a b allowed first second = let adds = taken_full n log line b second first.0.0 in absurd (first.0.1 adds.value adds.json)
-ends_same n log line false true a b allowed first second = let adds = taken_full n log line a first second.0.0 in absurd (second.0.1 adds.value adds.json)
+ends_same n log line true false a b allowed first second = let taken = taken_json n log line b second first.0.0 in absurd (first.0.1 taken.0 taken.1)
+ends_same n log line false true a b allowed first second = let taken = taken_json n log line a first second.0.0 in absurd (second.0.1 taken.0 taken.1)
 ends_same n log line false false a b allowed first second = (takes_same n log line a b allowed first second, refl)
 
 pub one_log : (text : List ℕ) (a b : Log) (t u : Bool) → IsLogOf text a t → IsLogOf text b u → (a ≡ b) × (t ≡ u)

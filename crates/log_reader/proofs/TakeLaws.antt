@@ -1,21 +1,23 @@
 -- What is said, added to a log.
 use Rattle.std.proofs.Common.{◌≡◌, ◌≤◌, ◌+◌, inl, inr, ℕ, Bool, true, false, List, [], ◌∷◌, ◌++◌, length, Option, Some, None, Result, Ok, Err, OnOk, IfErr, refl, sym, ap, subst, ◌∙◌, arith}
-use Rattle.std.specs.Prelude.{option_map}
+use Rattle.std.specs.Prelude.{⊤, option_map}
 use Rattle.std.proofs.lemmas.List.{length_push}
+use Rattle.json_bounded.specs.Text.{IsJson}
+use Rattle.serde_json.specs.Data.{Data}
 use Rattle.log_events.specs.Events.{IsAllowed, MayStand}
 use Rattle.log_events.specs.declared.event.ClientCall.{ClientCall}
 use Rattle.log_events.specs.declared.event.ClientCall.TheVariants.{WriteTo, ReadOf, DeleteOf}
 use Rattle.log_events.specs.declared.event.Ending.{Ending}
 use Rattle.log_events.specs.declared.event.Event.{Event}
 use Rattle.log_events.specs.declared.event.Event.TheVariants.{Starts, Begins, Ends}
-use Rattle.log_reader.specs.BookSteps.{AddsSaid, EndsCall, IsEndingFault, IsEventFault, IsSaidFault}
-use Rattle.log_reader.specs.Forms.{Said, SaidCall, SaidEnding, start, begin, end, write, read, delete, answer, nothing, failed, lost}
-use Rattle.log_reader.specs.Logs.{EndsBy, IsPending, IsPendingAt, IsUnsaid, Log, MayFollow, Takes, call_of, client_number, ending_of, event_of, key_number, value_number, with_call, with_client, with_ending, with_event, with_key, with_said, with_value}
+use Rattle.log_reader.specs.BookSteps.{AddsSaid, EndsCall, IsEndingFault, IsEventFault, IsLineFault, IsSaidFault, IsValueFault, IsValueRefused, TakesSaid, TakesValue}
+use Rattle.log_reader.specs.Forms.{Said, SaidCall, SaidEnding, start, begin, end, ordered, write, read, delete, answer, nothing, failed, lost, said_at}
+use Rattle.log_reader.specs.Logs.{EndsBy, IsFull, IsPending, IsPendingAt, IsRefused, IsUnsaid, Log, MayFollow, Takes, call_of, client_number, ending_of, event_of, key_number, value_number, with_call, with_client, with_ending, with_event, with_key, with_said, with_value}
 use Rattle.log_reader.specs.Names.{Name}
 use Rattle.log_reader.specs.declared.log_fault.LogFault.{LogFault}
 use Rattle.log_reader.specs.declared.log_fault.LogFault.TheVariants.{Refused, Memory, Read}
 use Rattle.log_reader.specs.declared.refusal.Reason.{Reason}
-use Rattle.log_reader.specs.declared.refusal.Reason.TheVariants.{LateStart, CallPending, WrongEnd}
+use Rattle.log_reader.specs.declared.refusal.Reason.TheVariants.{NotJson, TooLong, NoForm, LateStart, CallPending, NothingPending, WrongEnd, LateOrder}
 use Rattle.log_reader.specs.declared.refusal.Refusal.{Refusal}
 use Rattle.log_reader.proofs.FollowLaws.{end_follows, said_fits, unallowed}
 
@@ -28,6 +30,10 @@ on_both (Err e) A B C a b f = tt
 pub on_one : {T E : Type 0} (r : Result T E) (A B : Type 0) → OnOk r A → (A → B) → OnOk r B
 on_one (Ok x) A B a f = f a
 on_one (Err e) A B a f = tt
+
+pub on_any : {T E : Type 0} (r : Result T E) (A : Type 0) → A → OnOk r A
+on_any (Ok x) A a = a
+on_any (Err e) A a = tt
 
 pub if_error : {T E : Type 0} (r : Result T E) (P Q : E → Type 0) → IfErr r P → ((e : E) → P e → Q e) → IfErr r Q
 if_error (Ok x) P Q p f = tt
@@ -81,6 +87,23 @@ refuses log mid said n e event reason (Refused refusal) same is unsaid (refused,
     )
 refuses log mid said n e event reason Memory same is unsaid fault = tt
 refuses log mid said n e event reason Read same is unsaid fault = absurd fault
+
+-- the line says an event
+added : (n : ℕ) (before : Log) (line : List ℕ) (d : Data) (said : Said) (after : Log) → IsFull line → IsJson line d → said_at d ≡ Some said → AddsSaid n before said after
+    → Takes n before line after
+added n before line d said after full json form adds = inr (inl (record {
+  full = full;
+  value = d;
+  json = json;
+  said = said;
+  form = form;
+  pending = adds.pending;
+  is_pending = adds.is_pending;
+  event = adds.event;
+  says = adds.says;
+  follows = adds.follows;
+  added = adds.added;
+}))
 
 -- ---- a start
 
@@ -198,6 +221,61 @@ module _ (n : ℕ) (log a : Log) (client : Name) (i : ℕ) (call : ClientCall) (
   end_refused Memory fault = tt
   end_refused Read fault = absurd fault
 
+-- ---- what a line says
+
+pub takes_said : (n : ℕ) (before : Log) (line : List ℕ) (d : Data) (said : Said) (after : Log) → IsFull line → IsJson line d → said_at d ≡ Some said
+    → TakesSaid n before said after → Takes n before line after
+takes_said n before line d (start key value) after full json form adds = added n before line d (start key value) after full json form adds
+takes_said n before line d (begin client call) after full json form adds = added n before line d (begin client call) after full json form adds
+takes_said n before line d (end client ending) after full json form adds = added n before line d (end client ending) after full json form adds
+takes_said n before line d ordered after full json form adds =
+    inr (inr (record { full = full; value = d; json = json; form = form; follows = adds.follows; added = adds.added }))
+
+pub takes_value : (n : ℕ) (before : Log) (line : List ℕ) (d : Data) (after : Log) → IsFull line → IsJson line d → TakesValue n before d after → Takes n before line after
+takes_value n before line d after full json (said, form, takes) = takes_said n before line d said after full json form takes
+
+-- the reasons for which what is said does not follow
+abbrev IsOfSaid : Reason → Type 0
+IsOfSaid TooLong = ⊥
+IsOfSaid NotJson = ⊥
+IsOfSaid NoForm = ⊥
+IsOfSaid reason = ⊤
+
+of_said : (log : Log) (said : Said) (reason : Reason) → IsUnsaid log said reason → IsOfSaid reason
+of_said log (start key value) LateStart is = tt
+of_said log (start key value) reason is = absurd is
+of_said log (begin client call) CallPending is = tt
+of_said log (begin client call) reason is = absurd is
+of_said log (end client ending) NothingPending is = tt
+of_said log (end client ending) WrongEnd is = tt
+of_said log (end client ending) reason is = absurd is
+of_said log ordered LateOrder is = tt
+of_said log ordered reason is = absurd is
+
+value_unsaid : (log : Log) (d : Data) (said : Said) (reason : Reason) → said_at d ≡ Some said → IsUnsaid log said reason → IsOfSaid reason → IsValueRefused log d reason
+value_unsaid log d said NoForm form is of = absurd of
+value_unsaid log d said reason form is of = (said, form, is)
+
+line_unsaid : (log : Log) (line : List ℕ) (d : Data) (said : Said) (reason : Reason) → IsFull line → IsJson line d → said_at d ≡ Some said → IsUnsaid log said reason
+    → IsOfSaid reason → IsRefused log line reason
+line_unsaid log line d said TooLong full json form is of = absurd of
+line_unsaid log line d said NotJson full json form is of = absurd of
+line_unsaid log line d said NoForm full json form is of = absurd of
+line_unsaid log line d said reason full json form is of = (full, (d, said, json, form, is))
+
+pub value_refused : (log : Log) (d : Data) (said : Said) (n : ℕ) (fault : LogFault) → said_at d ≡ Some said → IsSaidFault log said n fault → IsValueFault log d n fault
+value_refused log d said n (Refused refusal) form (number, is) =
+    (number, value_unsaid log d said refusal.reason form is (of_said log said refusal.reason is))
+value_refused log d said n Memory form fault = tt
+value_refused log d said n Read form fault = absurd fault
+
+pub line_refused : (log : Log) (line : List ℕ) (d : Data) (said : Said) (n : ℕ) (fault : LogFault) → IsFull line → IsJson line d → said_at d ≡ Some said → IsSaidFault log said n fault
+    → IsLineFault log line n fault
+line_refused log line d said n (Refused refusal) full json form (number, is) =
+    (number, line_unsaid log line d said refusal.reason full json form is (of_said log said refusal.reason is))
+line_refused log line d said n Memory full json form fault = tt
+line_refused log line d said n Read full json form fault = absurd fault
+
 -- ---- at most one event more
 
 pub said_events : (log : Log) (pending : Option ClientCall) (said : Said) → (with_said log pending said).events ≡ log.events
@@ -208,10 +286,12 @@ said_events log None (end client (answer value)) = refl
 said_events log None (end client nothing) = refl
 said_events log None (end client failed) = refl
 said_events log None (end client lost) = refl
+said_events log pending ordered = refl
 
 pub takes_few : (n : ℕ) (before : Log) (line : List ℕ) (after : Log) → Takes n before line after → length after.events ≤ length before.events + 1
 takes_few n before line after (inl blank) = let same = ap (λ (l : Log). length l.events) blank.2 in omega (arith, same)
-takes_few n before line after (inr adds) =
+takes_few n before line after (inr (inr says)) = let same = ap (λ (l : Log). length l.events) says.added in omega (arith, same)
+takes_few n before line after (inr (inl adds)) =
     let same : after.events ≡ before.events ++ adds.event ∷ [] =
     ap (λ (l : Log). l.events) adds.added ∙ ap (λ (es : List Event). es ++ adds.event ∷ []) (said_events before adds.pending adds.said) in
     omega (arith, ap length same, length_push before.events adds.event)

@@ -9,8 +9,8 @@ use Rattle.log_events.specs.declared.event.Ending.{Ending}
 use Rattle.log_events.specs.declared.event.Event.{Event}
 use Rattle.log_events.specs.declared.event.Event.TheVariants.{Ends}
 use Rattle.log_events.specs.Events.{MayStand}
-use Rattle.log_reader.specs.Forms.{Said, SaidEnding, said_at}
-use Rattle.log_reader.specs.Logs.{IsFull, IsNoJson, IsPendingAt, IsRefused, IsUnsaid, Log, MayFollow, ending_of, event_of, with_ending, with_event, with_said}
+use Rattle.log_reader.specs.Forms.{Said, SaidEnding, ordered, said_at}
+use Rattle.log_reader.specs.Logs.{IsFull, IsNoJson, IsPendingAt, IsRefused, IsUnsaid, Log, MayFollow, MayOrder, ending_of, event_of, with_ending, with_event, with_order, with_said}
 use Rattle.log_reader.specs.Readings.{AreNamed}
 use Rattle.log_reader.specs.declared.content.Content.{Content}
 use Rattle.log_reader.specs.declared.content.Content.TheVariants as contents
@@ -42,6 +42,16 @@ pub record AddsSaid (n : ℕ) (before : Log) (said : Said) (after : Log) : Type 
   pub follows : MayFollow before event
   pub added : after ≡ with_event (with_said before pending said) n event
 
+-- the order of time was said
+pub record AddsOrder (before after : Log) : Type 0 where
+  pub follows : MayOrder before
+  pub added : after ≡ with_order before
+
+-- one of the two
+abbrev pub TakesSaid : ℕ → Log → Said → Log → Type 0
+TakesSaid n before ordered after = AddsOrder before after
+TakesSaid n before said after = AddsSaid n before said after
+
 -- it does not follow, or memory ran out
 abbrev pub IsSaidFault : Log → Said → ℕ → LogFault → Type 0
 IsSaidFault log said n (faults.Refused refusal) = (refusal.line ≡ n) × IsUnsaid log said refusal.reason
@@ -71,8 +81,8 @@ IsEndingFault log call ending n faults.Memory = ⊤
 IsEndingFault log call ending n faults.Read = ⊥
 
 -- what a JSON value says was added
-abbrev pub AddsValue : ℕ → Log → Data → Log → Type 0
-AddsValue n before d after = (said : Said) × (said_at d ≡ Some said) × AddsSaid n before said after
+abbrev pub TakesValue : ℕ → Log → Data → Log → Type 0
+TakesValue n before d after = (said : Said) × (said_at d ≡ Some said) × TakesSaid n before said after
 
 abbrev pub IsValueRefused : Log → Data → Reason → Type 0
 IsValueRefused log d NoForm = said_at d ≡ None

@@ -18,11 +18,12 @@ pub data SaidEnding : Type 0 where
   failed : SaidEnding
   lost : SaidEnding
 
--- an event, by names
+-- an event, by names, or that the lines of the log stand in the order of time
 pub data Said : Type 0 where
   start : Name → Name → Said
   begin : Name → SaidCall → Said
   end : Name → SaidEnding → Said
+  ordered : Said
 
 -- the value is this text
 abbrev pub is_word : List ℕ → Data → Bool
@@ -65,9 +66,13 @@ called_in word client more =
     if is_word (codes "begin") word then both begin (name_of client) (call_at more)
     else (if is_word (codes "end") word then both end (name_of client) (answer_at more) else None)
 
+-- ["order", "time"]
+abbrev pub ordered_in : Data → Option Said
+ordered_in order = if is_word (codes "time") order then Some ordered else None
+
 -- one of these, or ["start", key, value]. A begin, an end, a fail and a lost may each have one element more, a note: any value, which says nothing
 abbrev pub said_in : List Data → Option Said
-said_in (word ∷ client ∷ []) = unanswered_in word client
+said_in (word ∷ first ∷ []) = if is_word (codes "order") word then ordered_in first else unanswered_in word first
 said_in (word ∷ first ∷ second ∷ []) =
     if is_word (codes "start") word then both start (name_of first) (value_name second)
     else (if is_unanswered word then unanswered_in word first else called_in word first second)

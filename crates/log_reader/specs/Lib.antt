@@ -7,6 +7,7 @@ pub mod Faults
 pub mod Logs
 pub mod Readings
 pub mod EventLines
+pub mod OrderLines
 pub mod Shown
 pub mod Steps
 pub mod Spelling

@@ -12,22 +12,23 @@ use Rattle.log_events.specs.declared.event.Ending.TheVariants.{Answered, Got, Go
 use Rattle.log_events.specs.declared.event.Event.{Event}
 use Rattle.log_events.specs.declared.event.Event.TheVariants.{Starts, Begins, Ends}
 use Rattle.log_reader.specs.Names.{Name, number_in, same_name, text_name, with_name}
-use Rattle.log_reader.specs.Forms.{Said, SaidCall, SaidEnding, start, begin, end, write, read, delete, answer, nothing, failed, lost, said_at}
+use Rattle.log_reader.specs.Forms.{Said, SaidCall, SaidEnding, start, begin, end, ordered, write, read, delete, answer, nothing, failed, lost, said_at}
 use Rattle.log_reader.specs.declared.limits.TheConstants.{MAX_LINE_BYTES}
 use Rattle.log_reader.specs.declared.refusal.Reason.{Reason}
-use Rattle.log_reader.specs.declared.refusal.Reason.TheVariants.{NotJson, TooLong, NoForm, LateStart, CallPending, NothingPending, WrongEnd}
+use Rattle.log_reader.specs.declared.refusal.Reason.TheVariants.{NotJson, TooLong, NoForm, LateStart, CallPending, NothingPending, WrongEnd, LateOrder}
 use Rattle.log_reader.specs.declared.refusal.Refusal.{Refusal}
 
--- a log: the tables of its clients, keys and values, its events, and the line of each
+-- a log: the tables of its clients, keys and values, its events, the line of each, and whether it says that its lines stand in the order of time
 pub record Log : Type 0 where
   pub clients : List Name
   pub keys : List Name
   pub values : List Name
   pub events : List Event
   pub lines : List ℕ
+  pub in_time : Bool
 
 abbrev pub no_log : Log
-no_log = record { clients = []; keys = []; values = []; events = []; lines = [] }
+no_log = record { clients = []; keys = []; values = []; events = []; lines = []; in_time = false }
 
 -- ---- the event that is said, where these are the log before it and the pending call of its client
 
@@ -62,6 +63,7 @@ module _ (log : Log) where
   event_of pending (begin client call) = Some (Begins (client_number client) (call_of call))
   event_of None (end client ending) = None
   event_of (Some call) (end client ending) = option_map (Ends (client_number client)) (ending_of call ending)
+  event_of pending ordered = None
 
   -- the log with names that were met
   abbrev pub with_client : Name → Log
@@ -77,6 +79,10 @@ module _ (log : Log) where
   abbrev pub with_event : ℕ → Event → Log
   with_event n e = record log { events = log.events ++ e ∷ []; lines = log.lines ++ n ∷ [] }
 
+  -- and with the order of time
+  abbrev pub with_order : Log
+  with_order = record log { in_time = true }
+
 abbrev pub with_call : Log → SaidCall → Log
 with_call log (write key value) = with_value (with_key log key) value
 with_call log (read key) = with_key log key
@@ -91,6 +97,7 @@ abbrev pub with_said : Log → Option ClientCall → Said → Log
 with_said log pending (start key value) = with_value (with_key log key) value
 with_said log pending (begin client call) = with_call (with_client log client) call
 with_said log pending (end client ending) = with_ending (with_client log client) pending ending
+with_said log pending ordered = log
 
 -- ---- what a line does
 
@@ -104,10 +111,15 @@ abbrev pub IsPendingAt : Log → Said → Option ClientCall → Type 0
 IsPendingAt log (start key value) pending = pending ≡ None
 IsPendingAt log (begin client call) pending = pending ≡ None
 IsPendingAt log (end client ending) pending = IsPending log.events (client_number log client) pending
+IsPendingAt log ordered pending = pending ≡ None
 
 -- the events of the log and this one are a log
 abbrev pub MayFollow : Log → Event → Type 0
 MayFollow log e = IsAllowed (log.events ++ e ∷ [])
+
+-- the order of time is said first, and once
+abbrev pub MayOrder : Log → Type 0
+MayOrder log = (log.events ≡ []) × (log.in_time ≡ false)
 
 -- the line is neither blank nor too long
 abbrev pub IsFull : List ℕ → Type 0
@@ -127,9 +139,19 @@ pub record AddsEvent (n : ℕ) (before : Log) (line : List ℕ) (after : Log) : 
   pub follows : MayFollow before event
   pub added : after ≡ with_event (with_said before pending said) n event
 
--- a line takes a log to the next: a blank one leaves it
+-- the line says that the lines of the log stand in the order of time, before any event
+pub record SaysOrder (before : Log) (line : List ℕ) (after : Log) : Type 0 where
+  pub full : IsFull line
+  pub value : Data
+  pub json : IsJson line value
+  pub form : said_at value ≡ Some ordered
+  pub follows : MayOrder before
+  pub added : after ≡ with_order before
+
+-- a line takes a log to the next: a blank one leaves it, and any other adds an event, or the order of time
 abbrev pub Takes : ℕ → Log → List ℕ → Log → Type 0
-Takes n before line after = ((length line ≤ MAX_LINE_BYTES) × (is_blank line ≡ true) × (after ≡ before)) ⊎ AddsEvent n before line after
+Takes n before line after =
+    ((length line ≤ MAX_LINE_BYTES) × (is_blank line ≡ true) × (after ≡ before)) ⊎ (AddsEvent n before line after ⊎ SaysOrder before line after)
 
 abbrev pub IsNoJson : List ℕ → Type 0
 IsNoJson line = (d : Data) → ¬ IsJson line d
@@ -141,6 +163,7 @@ IsUnsaid log (begin client call) CallPending = ¬ MayFollow log (Begins (client_
 IsUnsaid log (end client ending) NothingPending = IsPending log.events (client_number log client) None
 IsUnsaid log (end client ending) WrongEnd =
     (call : ClientCall) × IsPending log.events (client_number log client) (Some call) × (ending_of log call ending ≡ None)
+IsUnsaid log ordered LateOrder = ¬ MayOrder log
 IsUnsaid log said reason = ⊥
 
 -- the line does not follow, for this reason

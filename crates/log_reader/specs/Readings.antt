@@ -1,5 +1,5 @@
 -- What a reader of a log has read.
-use Rattle.std.specs.Prelude.{◌≡◌, ⊤, ℕ, ◌<◌, List, ◌++◌, length, Option, IfSome}
+use Rattle.std.specs.Prelude.{◌≡◌, ◌≢◌, ⊤, ℕ, ◌<◌, true, List, [], ◌++◌, length, Option, IfSome}
 use Rattle.std.specs.List.{All}
 use Rattle.log_events.specs.declared.event.ClientCall.{ClientCall}
 use Rattle.log_events.specs.declared.event.ClientCall.TheVariants.{WriteTo, ReadOf, DeleteOf}
@@ -27,13 +27,15 @@ pub record HasRead (text : List ℕ) (reading : Reading) : Type 0 where
 abbrev pub Grows : {X : Type 0} → List X → List X → Type 0
 Grows {X} old new = (more : List X) × (new ≡ old ++ more)
 
--- what a log had it has still
+-- what a log had it has still; the order of time is said before any event, or never
 pub record Extends (old new : Log) : Type 0 where
   pub clients : Grows old.clients new.clients
   pub keys : Grows old.keys new.keys
   pub values : Grows old.values new.values
   pub events : Grows old.events new.events
   pub lines : Grows old.lines new.lines
+  pub in_time : old.in_time ≡ true → new.in_time ≡ true
+  pub settled : old.events ≢ [] → new.in_time ≡ old.in_time
 
 -- why a text whose first lines have a log is not read until it has so many events: a later line is refused, before which it has fewer; or memory runs
 -- out, or the reader fails

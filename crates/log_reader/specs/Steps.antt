@@ -5,7 +5,7 @@ use Rattle.log_reader.specs.Names.{Name, text_name}
 use Rattle.log_reader.specs.declared.name_value.NameValue.{NameValue}
 use Rattle.log_reader.specs.declared.name_value.NameValue.TheVariants.{Text, Whole, Negative, Truth}
 use Rattle.log_reader.specs.declared.said.Said.{Said}
-use Rattle.log_reader.specs.declared.said.Said.TheVariants.{Start, Begin, End}
+use Rattle.log_reader.specs.declared.said.Said.TheVariants.{Start, Begin, End, Ordered}
 use Rattle.log_reader.specs.declared.said.SaidCall.{SaidCall}
 use Rattle.log_reader.specs.declared.said.SaidCall.TheVariants.{Write, Read, Delete}
 use Rattle.log_reader.specs.declared.said.SaidEnding.{SaidEnding}
@@ -36,3 +36,4 @@ abbrev pub said_view : Said → forms.Said
 said_view (Start key value) = forms.start (name_in key) (name_in value)
 said_view (Begin client call) = forms.begin (name_in client) (call_view call)
 said_view (End client ending) = forms.end (name_in client) (ending_view ending)
+said_view Ordered = forms.ordered

@@ -7,11 +7,12 @@ ghost use Rattle.log_reader.specs.Logs.{IsPending, MayFollow, call_of, client_nu
 ghost use Rattle.log_reader.specs.Logs.{with_call, with_client, with_ending, with_event, with_key, with_value};
 ghost use Rattle.log_reader.specs.Readings.{AreNamed, Extends, IsCallNamed, IsEndingNamed, IsNamed};
 ghost use Rattle.log_reader.specs.Steps.{call_view, ending_view, name_in};
-ghost use Rattle.log_reader.specs.BookSteps.{IsEventFault};
+ghost use Rattle.log_reader.specs.BookSteps.{AddsOrder, IsEventFault, IsSaidFault};
+ghost use Rattle.log_reader.specs.Forms.{ordered};
 ghost use Rattle.log_reader.specs.Shown.{IsShown};
 
 use crate::forms::note_of;
-use crate::log_fault::LogFault;
+use crate::log_fault::{LogFault, refused};
 use crate::name_value::NameValue;
 use crate::names::Names;
 use crate::notes::{Note, Notes};
@@ -22,7 +23,8 @@ use serde_json::Value;
 use std::alloc::{AllocError, Global};
 use std::marker::Model;
 
-/// A log: the tables of names, the events, and the line of each; and notes, which are no part of it.
+/// A log: the tables of names, the events, the line of each, and whether its lines stand in the order of time; and notes, which are no
+/// part of it.
 #[derive(Drop)]
 pub(crate) struct Book {
     clients: Names,
@@ -30,6 +32,7 @@ pub(crate) struct Book {
     values: Names,
     log: EventLog,
     lines: Vec<u32>,
+    is_in_time: bool,
     notes: Notes,
 }
 
@@ -39,10 +42,11 @@ impl Model for Book {
 
     ghost Value = { Log };
 
-    ghost view = { λ b. record { clients = b.clients; keys = b.keys; values = b.values; events = b.log; lines = b.lines.items } };
+    ghost view = { λ b.
+        record { clients = b.clients; keys = b.keys; values = b.values; events = b.log; lines = b.lines.items; in_time = b.is_in_time } };
 
-    ghost invariant = { λ b.
-        IsBook (record { clients = b.clients; keys = b.keys; values = b.values; events = b.log; lines = b.lines.items }) };
+    ghost invariant = { λ b. IsBook
+        (record { clients = b.clients; keys = b.keys; values = b.values; events = b.log; lines = b.lines.items; in_time = b.is_in_time }) };
 }
 
 impl Book {
@@ -56,6 +60,7 @@ impl Book {
             values: Names::new(alloc),
             log: EventLog::new(alloc),
             lines: Vec::new(alloc),
+            is_in_time: false,
             notes: Notes::new(alloc, keeps_notes),
         }
     }
@@ -157,6 +162,13 @@ impl Book {
         &self.log
     }
 
+    /// Whether the lines stand in the order of time, as the first of them says.
+    pub(crate) fn is_in_time(&self) -> bool
+        ensures { result ≡ self.now.in_time }
+    {
+        self.is_in_time
+    }
+
     /// The names of the clients.
     pub(crate) fn clients(&self) -> &Names
         ensures { result.now ≡ self.now.clients }
@@ -229,6 +241,21 @@ impl Book {
             Err(PushError::NotAllowed) => Err(LogFault::Refused(Refusal { reason, line })),
             Err(PushError::Memory) => Err(LogFault::Memory),
         }
+    }
+}
+
+impl Book {
+    /// Takes in that the lines stand in the order of time, as the line with this number says. Refuses it after an event, and a second time.
+    pub(crate) fn order(&mut self, line: u64) -> Result<(), LogFault>
+        ensures ordered { OnOk result (AddsOrder self.old self.new) }
+        ensures refused { IfErr result (IsSaidFault self.old ordered line) }
+        ensures extends { Extends self.old self.new }
+    {
+        if self.is_in_time || self.log.events() != 0 {
+            return Err(refused(Reason::LateOrder, line));
+        }
+        self.is_in_time = true;
+        Ok(())
     }
 }
 

@@ -145,6 +145,13 @@ impl EventReader {
         self.book.log()
     }
 
+    /// Whether the log says that its lines stand in the order of time. Once it has an event this does not change.
+    pub fn is_in_time(&self) -> bool
+        ensures { result ≡ self.now.log.in_time }
+    {
+        self.book.is_in_time()
+    }
+
     /// The names of the clients.
     pub fn clients(&self) -> &Names
         ensures { result.now ≡ self.now.log.clients }

@@ -3,7 +3,7 @@
 ghost use Rattle.std.specs.Prelude.{◌≡◌, [], ◌∷◌, option_map};
 ghost use Rattle.serde_json.specs.View.{view};
 ghost use Rattle.log_reader.specs.Forms.{answer_at, call_at, call_in, is_word as is_that_word, said_at as said_by, said_in};
-ghost use Rattle.log_reader.specs.Forms.{called_in, is_unanswered as is_word_unanswered, unanswered_in};
+ghost use Rattle.log_reader.specs.Forms.{called_in, is_unanswered as is_word_unanswered, ordered_in, unanswered_in};
 ghost use Rattle.log_reader.specs.Steps.{call_view, ending_view, said_view};
 
 use crate::name_value::{name_of, value_name_of};
@@ -96,6 +96,28 @@ fn called_of<'a>(word: &Value, client: &'a Value, more: &'a Value) -> Option<Sai
     }
 }
 
+// The order of time.
+fn order_of(order: &Value) -> Option<Said<'_>>
+    ensures { option_map said_view result ≡ ordered_in (view order.now) }
+{
+    if is_word("time", order) {
+        Some(Said::Ordered)
+    } else {
+        None
+    }
+}
+
+// What a word and one more element say.
+fn said_of_one<'a>(word: &Value, first: &'a Value) -> Option<Said<'a>>
+    ensures { option_map said_view result ≡ said_in (view word.now ∷ view first.now ∷ []) }
+{
+    if is_word("order", word) {
+        order_of(first)
+    } else {
+        unanswered_of(word, first)
+    }
+}
+
 // The event of a word and two more elements, of which the second may be a note.
 fn said_of_both<'a>(word: &Value, first: &'a Value, second: &'a Value) -> Option<Said<'a>>
     ensures { option_map said_view result ≡ said_in (view word.now ∷ view first.now ∷ view second.now ∷ []) }
@@ -114,7 +136,7 @@ pub(crate) fn said_at(value: &Value) -> Option<Said<'_>>
     ensures { option_map said_view result ≡ said_by (view value.now) }
 {
     match elements_of(value)? {
-        [word, client] => unanswered_of(word, client),
+        [word, first] => said_of_one(word, first),
         [word, first, second] => said_of_both(word, first, second),
         [word, client, more, _] => called_of(word, client, more),
         _ => None,

@@ -1,6 +1,6 @@
 //! Laws of texts and their logs. The functions do nothing: what they ensure is the law.
 
-ghost use Rattle.std.specs.Prelude.{◌≡◌, ℕ, Bool, List, [], ◌∷◌, Some, codes, slice_get};
+ghost use Rattle.std.specs.Prelude.{◌≡◌, ℕ, Bool, true, List, [], ◌∷◌, Some, codes, slice_get};
 ghost use Rattle.serde_json.specs.Data.{Data, string};
 ghost use Rattle.log_events.specs.declared.event.Event.{Event as AnyEvent};
 ghost use Rattle.log_reader.specs.EventLines.{IsSaidIn};
@@ -9,6 +9,7 @@ ghost use Rattle.log_reader.specs.Logs.{IsLogOf, IsRefusedLog, Log};
 ghost use Rattle.log_reader.specs.NameLaw.{FitsWord};
 ghost use Rattle.log_reader.specs.Names.{Name, value_name};
 ghost use Rattle.log_reader.specs.NameTexts.{IsNameText};
+ghost use Rattle.log_reader.specs.OrderLines.{SaysOrderFirst};
 ghost use Rattle.log_reader.specs.declared.refusal.Refusal.{Refusal as AnyRefusal};
 
 /// A text has one log, or one refusal, and not both.
@@ -23,6 +24,12 @@ pub fn texts_have_one_log()
 pub fn lines_say_events()
     ensures { (text : List ℕ) (log : Log) (torn : Bool) → IsLogOf text log torn
         → (place : ℕ) (e : AnyEvent) → slice_get log.events place ≡ Some e → IsSaidIn text log place e }
+{}
+
+/// A log is in the order of time exactly where the first line of its text that is not blank says so.
+pub fn first_lines_say_order()
+    ensures said { (text : List ℕ) (log : Log) (torn : Bool) → IsLogOf text log torn → log.in_time ≡ true → SaysOrderFirst text }
+    ensures kept { (text : List ℕ) (log : Log) (torn : Bool) → IsLogOf text log torn → SaysOrderFirst text → log.in_time ≡ true }
 {}
 
 /// Two JSON values with one name are the same, where their numbers fit 64 bits.

@@ -25,7 +25,8 @@ mod word;
 
 pub use event_reader::EventReader;
 pub use laws::{
-    lines_say_events, names_tell_values, notes_say_nothing, texts_have_one_log, texts_tell_names,
+    first_lines_say_order, lines_say_events, names_tell_values, notes_say_nothing,
+    texts_have_one_log, texts_tell_names,
 };
 pub use limits::MAX_LINE_BYTES;
 pub use log_fault::LogFault;

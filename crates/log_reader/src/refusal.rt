@@ -20,6 +20,8 @@ pub enum Reason {
     NothingPending,
     /// An end that does not fit the pending call: a read ends only with a value or null, any other call only with `"ok"`.
     WrongEnd,
+    /// The order of time, said after an event, or a second time.
+    LateOrder,
 }
 
 /// The first line that does not follow those before it.
@@ -43,7 +45,8 @@ impl Refusal {
             | Reason::LateStart
             | Reason::CallPending
             | Reason::NothingPending
-            | Reason::WrongEnd => 30,
+            | Reason::WrongEnd
+            | Reason::LateOrder => 30,
         }
     }
 }

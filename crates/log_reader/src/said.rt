@@ -26,7 +26,7 @@ pub(crate) enum SaidEnding<'a> {
     Lost,
 }
 
-/// An event.
+/// An event, or the order of time.
 #[derive(Clone, Copy)]
 pub(crate) enum Said<'a> {
     /// The key holds the value before the first call.
@@ -35,4 +35,6 @@ pub(crate) enum Said<'a> {
     Begin(NameValue<'a>, SaidCall<'a>),
     /// The pending call of the client ended so.
     End(NameValue<'a>, SaidEnding<'a>),
+    /// The lines of the log stand in the order of time.
+    Ordered,
 }

@@ -6,7 +6,7 @@ ghost use Rattle.log_reader.specs.Forms.{said_at as said_by};
 ghost use Rattle.log_reader.specs.Logs.{EndsBy, IsPending, Takes};
 ghost use Rattle.log_reader.specs.Readings.{Extends};
 ghost use Rattle.log_reader.specs.Steps.{ending_view, said_view};
-ghost use Rattle.log_reader.specs.BookSteps.{AddsSaid, AddsValue, EndsCall};
+ghost use Rattle.log_reader.specs.BookSteps.{AddsSaid, EndsCall, TakesSaid, TakesValue};
 ghost use Rattle.log_reader.specs.BookSteps.{IsEndingFault, IsLineFault, IsRestFault, IsSaidFault, IsValueFault};
 
 use crate::book::Book;
@@ -89,9 +89,9 @@ fn take_end(
     }
 }
 
-/// Adds the event that a line says, from the line with this number. O(1) besides the names, on average.
+/// Adds what a line says, from the line with this number. O(1) besides the names, on average.
 pub(crate) fn take_said(book: &mut Book, said: Said<'_>, line: u64) -> Result<(), LogFault>
-    ensures added { OnOk result (AddsSaid line book.old (said_view said.entry) book.new) }
+    ensures added { OnOk result (TakesSaid line book.old (said_view said.entry) book.new) }
     ensures fault { IfErr result (IsSaidFault book.old (said_view said.entry) line) }
     ensures extends { Extends book.old book.new }
 {
@@ -99,12 +99,13 @@ pub(crate) fn take_said(book: &mut Book, said: Said<'_>, line: u64) -> Result<()
         Said::Start(key, value) => take_start(book, key, value, line),
         Said::Begin(client, call) => take_begin(book, client, call, line),
         Said::End(client, ending) => take_end(book, client, ending, line),
+        Said::Ordered => book.order(line),
     }
 }
 
 // Adds what a JSON value says, from the line with this number, and its note.
 fn take_value(alloc: Global, book: &mut Book, value: &Value, line: u64) -> Result<(), LogFault>
-    ensures added { OnOk result (AddsValue line book.old (view value.now) book.new) }
+    ensures added { OnOk result (TakesValue line book.old (view value.now) book.new) }
     ensures fault { IfErr result (IsValueFault book.old (view value.now) line) }
     ensures extends { Extends book.old book.new }
 {

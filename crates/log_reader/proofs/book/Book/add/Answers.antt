@@ -16,3 +16,4 @@ returns-in_ok-push-in-Ok-push-clause-extends c =
     let lines = pushed_lines c.args.self.now c.self.inside.lines.items c.push-in-Ok-push.new.self.items c.in-Ok.number (ap (λ (l : Log). l.lines) c.self.view_is) (search rules) in
     extends-push c.args.self.now _ c.in-Ok.number c.args.event (ap (λ (l : Log). l.clients) c.self.view_is) (ap (λ (l : Log). l.keys) c.self.view_is)
     (ap (λ (l : Log). l.values) c.self.view_is) (c.in-Ok-push.ensures.ok ∙ ap (λ (l : Log). l.events ++ c.args.event ∷ []) c.self.view_is) lines
+    (ap (λ (l : Log). l.in_time) c.self.view_is)

@@ -3,7 +3,6 @@ use Rattle.std.proofs.lemmas.Result.{err_from_is_err_and}
 use Rattle.json_lines.proofs.TakingLaws.{further_more, further_none}
 use Rattle.log_reader.proofs.LogCallLaws.{lines_end, lines_fault, lines_more, lines_none, lines_stop, no_more}
 use Rattle.log_reader.specs.ReadSteps.{ReadsLine}
-use Rattle.log_reader.specs.declared.progress.Progress.TheVariants.{More}
 use Rattle.log_reader.specs.declared.progress.Progress.{Progress}
 use Rattle.log_reader.proofs.BookLaws.{extends-more, extends-same}
 use Rattle.log_reader.proofs.ReadLaws.{line_reads, more_fault, more_more, more_none, more_reads}
