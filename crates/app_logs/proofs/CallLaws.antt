@@ -1,8 +1,8 @@
 -- By which calls the reading of a log goes on, ends and fails, and by which the lines on its cuts are written.
-use Rattle.std.proofs.Common.{◌≡◌, ◌⊎◌, ◌<◌, ◌*◌, ℕ, zero, suc, Result, Ok, Err, refl, sym, subst, ◌∙◌, inl, inr, arith, ⊎_elim}
+use Rattle.std.proofs.Common.{◌≡◌, ◌⊎◌, ◌<◌, ◌*◌, ℕ, zero, suc, Result, Ok, Err, sym, subst, inl, inr, arith, ⊎_elim}
 use Rattle.std.specs.Prelude.{◌≢◌}
 use Rattle.json_lines.specs.ReadCalls.{CallOutcome, EndsBy, FindsNoEnd, GoOnForLines, IsEnd}
-use Rattle.json_lines.specs.WriteCalls.{FailsToTake, IsPassedOn, PassesOn, SinkCall}
+use Rattle.json_lines.specs.WriteCalls.{IsPassedOn, PassesOn, SinkCall}
 use Rattle.json_lines.specs.declared.outcome.Outcome.{Outcome}
 use Rattle.json_lines.specs.declared.read_call.TheConstants.{MAX_READ_CALLS}
 use Rattle.json_lines.proofs.ReadCallLaws.{go_on_none}

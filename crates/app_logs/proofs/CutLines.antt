@@ -1,5 +1,5 @@
 -- Lines on cuts of a log, as the log grows and one cut more is judged.
-use Rattle.std.proofs.Common.{◌≡◌, ◌<◌, ◌≤◌, ◌*◌, ℕ, zero, suc, List, [], ◌∷◌, ◌++◌, length, take, inl, inr, refl, sym, ap, subst, ◌∙◌, append_assoc, append-nil, arith}
+use Rattle.std.proofs.Common.{◌≡◌, ◌<◌, ◌≤◌, ◌*◌, ℕ, zero, suc, List, [], ◌∷◌, ◌++◌, length, take, inl, inr, refl, sym, ap, subst, ◌∙◌, append_assoc, append-nil, arith, true}
 use Rattle.std.proofs.lemmas.List.{take-append-le, take_all}
 use Rattle.app_orders.specs.declared.expected.Expected.{Expected}
 use Rattle.json_lines.specs.declared.outcome.Outcome.{Outcome}
@@ -46,7 +46,7 @@ lines-kept expected es more (n ∷ ns) text outcome within are =
       report,
       others,
       later,
-      subst (λ (front : List Event). IsReportOn front report) (sym (take-append-le n es more within.0)) on,
+      subst (λ (front : List Event). IsReportOn true front report) (sym (take-append-le n es more within.0)) on,
       lines-kept expected es more ns others later within.1 rest,
       is,
       comes,
@@ -76,7 +76,7 @@ second-met a b both = let first : a ≡ Met = first-met a b both in sym (both �
 
 -- one line more
 pub lines-then : (expected : Expected) (es : List Event) (ns : List ℕ) (text : List ℕ) (n : ℕ) (report : Findings)
-    → AreCutLines expected es ns text Met → IsReportOn (take n es) report
+    → AreCutLines expected es ns text Met → IsReportOn true (take n es) report
     → AreCutLines expected es (ns ++ (n ∷ [])) (text ++ cut_line n report) (outcome_for expected report)
 unfolding AreCutLines
 lines-then expected es [] text n report are on = (
@@ -110,10 +110,10 @@ lines-none expected es every = (refl, refl)
 
 -- the line on all events is one cut more
 pub lines-all : (expected : Expected) (es : List Event) (ns : List ℕ) (text : List ℕ) (report : Findings)
-    → AreCutLines expected es ns text Met → IsReportOn es report
+    → AreCutLines expected es ns text Met → IsReportOn true es report
     → AreCutLines expected es (ns ++ (length es ∷ [])) (text ++ cut_line (length es) report) (outcome_for expected report)
 lines-all expected es ns text report are on =
-    lines-then expected es ns text (length es) report are (subst (λ (l : List Event). IsReportOn l report) (sym (take_all (length es) es (omega arith))) on)
+    lines-then expected es ns text (length es) report are (subst (λ (l : List Event). IsReportOn true l report) (sym (take_all (length es) es (omega arith))) on)
 
 pub multiples-then : (every k : ℕ) → multiples every (suc k) ≡ multiples every k ++ (every * suc k ∷ [])
 unfolding multiples

@@ -6,3 +6,4 @@ pub mod CallLaws
 pub mod LogLineLaws
 pub mod TextListLaws
 pub mod LogTextLaws
+pub mod ReportLaws

@@ -1,5 +1,5 @@
 -- What is written of an answer to a log where the writer fails.
-use Rattle.std.specs.Prelude.{◌≡◌, ◌⊎◌, ◌*◌, ℕ, suc, List, [], ◌∷◌, ◌++◌, Bool, Option, None, Some, IfSome, length}
+use Rattle.std.specs.Prelude.{◌≡◌, ◌⊎◌, ◌*◌, ℕ, suc, List, [], ◌∷◌, ◌++◌, Bool, Option, None, Some, IfSome, length, true}
 use Rattle.std.specs.Io.KnownBytes.{Appends}
 use Rattle.app_orders.specs.declared.expected.Expected.{Expected}
 use Rattle.app_orders.specs.declared.log_order.LogOrder.{LogOrder}
@@ -25,7 +25,7 @@ pub record WritesAnswerFront (order : LogOrder) (reader writer_before writer_aft
 
 -- a beginning of the line on these events was written
 abbrev pub WritesLineFront : List Event → Option (List ℕ) → Option (List ℕ) → Type 0
-WritesLineFront events before after = (report : Findings) × IsReportOn events report × AppendsFront before after (cut_line (length events) report)
+WritesLineFront events before after = (report : Findings) × IsReportOn true events report × AppendsFront before after (cut_line (length events) report)
 
 -- the cut after so many others is that of this log: of the first lines of one, or of a whole one, at whose end it is
 abbrev pub IsNextCut : ℕ → ℕ → Option (List ℕ) → Log → Type 0

@@ -1,5 +1,6 @@
 pub mod Failure
 pub mod Reports
+pub mod ReadsLeftOut
 pub mod ReadLogs
 pub mod Notes
 pub mod TextLists

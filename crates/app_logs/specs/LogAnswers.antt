@@ -16,22 +16,28 @@ use Rattle.app_explanations.specs.ExplanationTexts.{IsExplainedAs}
 use Rattle.app_explanations.specs.ListTexts.{IsListOf}
 use Rattle.log_reader.specs.Logs.{BeginsBy, IsLogOf, IsRefusedLog, Log}
 use Rattle.log_reader.specs.declared.refusal.Refusal.{Refusal}
+use Rattle.log_choices.specs.declared.seen.Seen.{Seen}
 use Rattle.app_logs.specs.declared.failure.LogError.{LogError}
 use Rattle.app_logs.specs.declared.failure.LogError.TheVariants.{Refused}
 use Rattle.app_logs.specs.declared.following.Followed.{Followed}
 use Rattle.app_logs.specs.LogTexts.{AreNames}
 use Rattle.app_logs.specs.Notes.{AreNotes}
-use Rattle.app_logs.specs.Reports.{AreCuts, AreCutLines, IsReportOn, any_history_of, multiples}
+use Rattle.app_logs.specs.Reports.{AreCuts, AreCutLines, IsForcedIn, IsReportBy, any_history_by, multiples}
 
--- the text answers a log that was read whole, and this comes of it
+-- the text answers a log that was read whole, by what its null reads saw, and this comes of it
+abbrev pub IsLogAnswerBy : List (ℕ × Seen) → LogOrder → Log → List ℕ → Outcome → Type 0
+IsLogAnswerBy saw (Judge judging) log text outcome =
+    (report : Findings) × IsReportBy log.events saw report × (text ≡ text_for report) × (outcome ≡ outcome_for judging.expected report)
+IsLogAnswerBy saw (Explain form) log text outcome = IsExplainedAs form (any_history_by log.events saw) text × (outcome ≡ Met)
+IsLogAnswerBy saw (ListFaults most form) log text outcome = IsListOf form most (any_history_by log.events saw) text × (outcome ≡ Met)
+IsLogAnswerBy saw WriteHistory log text outcome =
+    (text ≡ compact_text (form_of (any_history_by log.events saw)) ++ codes "\n") × (outcome ≡ Met)
+IsLogAnswerBy saw WriteNames log text outcome = AreNames log text × (outcome ≡ Met)
+IsLogAnswerBy saw WriteNotes log text outcome = AreNotes text × (outcome ≡ Met)
+
+-- it does by what is forced
 abbrev pub IsLogAnswer : LogOrder → Log → List ℕ → Outcome → Type 0
-IsLogAnswer (Judge judging) log text outcome =
-    (report : Findings) × IsReportOn log.events report × (text ≡ text_for report) × (outcome ≡ outcome_for judging.expected report)
-IsLogAnswer (Explain form) log text outcome = IsExplainedAs form (any_history_of log.events) text × (outcome ≡ Met)
-IsLogAnswer (ListFaults most form) log text outcome = IsListOf form most (any_history_of log.events) text × (outcome ≡ Met)
-IsLogAnswer WriteHistory log text outcome = (text ≡ compact_text (form_of (any_history_of log.events)) ++ codes "\n") × (outcome ≡ Met)
-IsLogAnswer WriteNames log text outcome = AreNames log text × (outcome ≡ Met)
-IsLogAnswer WriteNotes log text outcome = AreNotes text × (outcome ≡ Met)
+IsLogAnswer order log text outcome = (saw : List (ℕ × Seen)) × IsForcedIn log.in_time log.events saw × IsLogAnswerBy saw order log text outcome
 
 -- a log was read whole, and the answer to it was written after what the writer held: where the reader and the writer tell their bytes
 pub record AnswersLog (order : LogOrder) (reader_before reader_after writer_before writer_after : Option (List ℕ)) (followed : Followed) : Type 0 where

@@ -1,7 +1,9 @@
 -- What is written of the names of a log, and of the lines on which its calls are.
 use Rattle.std.specs.Prelude.{◌≡◌, ◌⊎◌, ℕ, List, ◌++◌, codes, decimal}
 use Rattle.log_events.specs.Events.{Call}
-use Rattle.log_events.specs.Origins.{origins_of}
+use Rattle.log_choices.specs.declared.seen.Seen.{Seen}
+use Rattle.log_choices.specs.ChoiceTables.{choice_in}
+use Rattle.log_choices.specs.ChosenOrigins.{origins_by}
 use Rattle.log_reader.specs.EventLines.{line_at}
 use Rattle.log_reader.specs.Logs.{Log}
 use Rattle.log_reader.specs.NameTexts.{IsNameText}
@@ -24,7 +26,7 @@ IsBegunOn begin text = (text ≡ decimal begin) ⊎ ((end : ℕ) × (text ≡ co
 abbrev pub IsCallLine : Log → Call → List ℕ → Type 0
 IsCallLine log call text = IsBegunOn (line_at log call.place) text
 
--- for each session of the log's history the lines of its operations, on one line
-abbrev pub AreCallLines : Log → List ℕ → Type 0
-AreCallLines log text =
-    (lists : List ℕ) × IsListText (IsListText (IsCallLine log)) (origins_of log.events) lists × (text ≡ lists ++ codes "\n")
+-- for each session of the log's history by what its null reads saw, the lines of its operations, on one line
+abbrev pub AreCallLines : List (ℕ × Seen) → Log → List ℕ → Type 0
+AreCallLines saw log text =
+    (lists : List ℕ) × IsListText (IsListText (IsCallLine log)) (origins_by log.events (choice_in saw)) lists × (text ≡ lists ++ codes "\n")

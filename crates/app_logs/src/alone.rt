@@ -2,6 +2,7 @@
 
 ghost use Rattle.std.specs.Prelude.{◌≡◌, IfErr, IfOk, string_bytes};
 ghost use Rattle.log_reader.specs.Logs.{IsLogOf};
+ghost use Rattle.app_logs.specs.Reports.{IsForcedIn};
 ghost use Rattle.app_logs.specs.Alone.{IsAnswerTo, IsMemoryError, judging_once as once, memory_error};
 
 use crate::answering::{answer_to, shows_notes};
@@ -46,6 +47,7 @@ pub fn answer_log_alone(
 /// It appends and fails as [`LoggedRun::read`] does, and has no read fault.
 pub fn run_in_memory(alloc: Global, log: &[u8], details: &mut String) -> Result<LoggedRun, LogError>
     ensures run { IfOk result (λ run. IsLogOf log.now run.log run.torn) }
+    ensures forced { IfOk result (λ run. IsForcedIn run.log.in_time run.log.events run.saw) }
     ensures error { IfErr result (IsMemoryError log.now) }
 {
     let whole = read_in_memory(alloc, log, true, details)?;

@@ -13,6 +13,7 @@ ghost use Rattle.app_logs.specs.ReadCalls.{ReadsWholeBy};
 
 use crate::failure::LogError;
 use crate::following::Followed;
+use crate::forced_history::forced_history;
 use crate::judging::report_on_last_log;
 use crate::logged_run::LoggedRun;
 use crate::noting::notes_text;
@@ -103,34 +104,69 @@ pub(crate) fn answer_to<W: PieceWork + SessionWork>(
 {
     match order {
         LogOrder::Judge(judging) => judged_log(work, alloc, whole.reader, *judging),
-        LogOrder::Explain(_) | LogOrder::ListFaults(_, _) => {
-            let run = LoggedRun::of(alloc, whole)?;
-            let answer = run.answer(work, alloc, order);
-            drop(run);
-            answer
-        }
+        LogOrder::Explain(_) | LogOrder::ListFaults(_, _) => answer_of_run(
+            work, alloc, whole, order,
+        ),
         LogOrder::WriteHistory => written_history(alloc, whole.reader),
-        LogOrder::WriteNames => {
-            let text = names_text(alloc, &whole.reader);
-            drop(whole);
-            Ok(Answered::met(text?))
-        }
-        LogOrder::WriteNotes => {
-            let text = notes_text(alloc, &whole.reader);
-            drop(whole);
-            Ok(Answered::met(text?))
-        }
+        LogOrder::WriteNames => written_names(alloc, whole.reader),
+        LogOrder::WriteNotes => written_notes(alloc, whole.reader),
     }
 }
 
+// The answer that the run of a log gives.
+#[tactic(auto, using(crate::proofs::ReportLaws::answered))]
+fn answer_of_run<W: PieceWork + SessionWork>(
+    work: &W,
+    alloc: Global,
+    whole: WholeLog,
+    order: &LogOrder,
+) -> Result<Answered, LogError>
+    requires can_check { W.can_check work.now }
+    requires can_work { W.can_work work.now }
+    ensures answer { IfOk result (λ answer. IsLogAnswer order.now whole.reader.log (string_bytes answer.text) answer.outcome) }
+    ensures error { IfErr result (λ e. e ≡ LogError.Memory) }
+{
+    let run = LoggedRun::of(alloc, whole)?;
+    let answer = run.answer(work, alloc, order);
+    drop(run);
+    answer
+}
+
+// The names of a log as a text.
+#[tactic(auto, using(crate::proofs::ReportLaws::names_answered))]
+fn written_names(alloc: Global, reader: EventReader) -> Result<Answered, LogError>
+    ensures answer { IfOk result (λ answer.
+        IsLogAnswer LogOrder.WriteNames reader.log (string_bytes answer.text) answer.outcome) }
+    ensures error { IfErr result (λ e. e ≡ LogError.Memory) }
+{
+    let text = names_text(alloc, &reader)?;
+    Ok(Answered::met(text))
+}
+
+// The notes of a log as a text.
+#[tactic(auto, using(crate::proofs::ReportLaws::notes_answered))]
+fn written_notes(alloc: Global, reader: EventReader) -> Result<Answered, LogError>
+    ensures answer { IfOk result (λ answer.
+        IsLogAnswer LogOrder.WriteNotes reader.log (string_bytes answer.text) answer.outcome) }
+    ensures error { IfErr result (λ e. e ≡ LogError.Memory) }
+{
+    let text = notes_text(alloc, &reader)?;
+    Ok(Answered::met(text))
+}
+
 // The history of a log as a text. The log is dropped before that is written.
+#[tactic(auto, using(crate::proofs::ReportLaws::history_answered))]
 fn written_history(alloc: Global, reader: EventReader) -> Result<Answered, LogError>
     ensures answer { IfOk result (λ answer.
         IsLogAnswer LogOrder.WriteHistory reader.log (string_bytes answer.text) answer.outcome) }
     ensures error { IfErr result (λ e. e ≡ LogError.Memory) }
 {
-    let history = reader.into_log().history(alloc)?;
-    Ok(Answered::met(history_text(alloc, &history)?))
+    let in_time = reader.is_in_time();
+    let log = reader.into_log();
+    let history = forced_history(alloc, &log, in_time)?;
+    drop(log);
+    let text = history_text(alloc, &history)?;
+    Ok(Answered::met(text))
 }
 
 // The report on a log. The names are dropped before the history is made.
@@ -145,7 +181,8 @@ fn judged_log<W: SessionWork>(
         IsLogAnswer (LogOrder.Judge judging) reader.log (string_bytes answer.text) answer.outcome) }
     ensures error { IfErr result (λ e. e ≡ LogError.Memory) }
 {
-    let report = report_on_last_log(work, alloc, reader.into_log())?;
+    let in_time = reader.is_in_time();
+    let report = report_on_last_log(work, alloc, reader.into_log(), in_time)?;
     answer_of_report(alloc, report, judging)
 }
 

@@ -51,8 +51,7 @@ impl CutEnds {
     /// The late write of a log, with that of its reads that comes first by line: at one of the cuts the read had returned its value, no
     /// write of the value to the key had begun, nor had the key the value at the start, and such a write begins later.
     ///
-    /// Nothing where there is none, or where memory does not suffice. O(n) for n calls on average, and the cost of a history where the log
-    /// has starts.
+    /// Nothing where there is none, or where memory does not suffice. O(n) for n calls and starts on average.
     pub(crate) fn late_write(&self, alloc: Global, reader: &EventReader) -> Option<LateWrite> {
         match self.late_places(alloc, reader.log()) {
             Ok(Some((read, write))) => Some(LateWrite {
@@ -82,9 +81,7 @@ impl CutEnds {
 // Where the values of a log are written first.
 fn first_places(alloc: Global, log: &EventLog) -> Result<FirstPlaces, AllocError> {
     let mut firsts = HashMap::new(alloc);
-    if has_starts(log) {
-        add_starts(alloc, log, &mut firsts)?;
-    }
+    add_starts(log, &mut firsts)?;
     for call in log.calls() {
         if let ClientCall::WriteTo(key, value) = call.call() {
             let pair = (u64::from(key), u64::from(value));
@@ -94,18 +91,9 @@ fn first_places(alloc: Global, log: &EventLog) -> Result<FirstPlaces, AllocError
     Ok(firsts)
 }
 
-// Whether a log has starts: they stand before all calls.
-fn has_starts(log: &EventLog) -> bool {
-    match log.calls().first() {
-        Some(call) => call.place() > 0,
-        None => false,
-    }
-}
-
-// Adds the values that keys have at the start, which the history of the log has.
-fn add_starts(alloc: Global, log: &EventLog, firsts: &mut FirstPlaces) -> Result<(), AllocError> {
-    let history = log.history(alloc)?;
-    for (variable, value) in history.start().entries() {
+// Adds the values that keys have at the start.
+fn add_starts(log: &EventLog, firsts: &mut FirstPlaces) -> Result<(), AllocError> {
+    for (variable, value) in log.starts().entries() {
         let pair = (u64::from(*variable) / 2, *value / 2);
         firsts.entry(pair)?.or_insert(0);
     }

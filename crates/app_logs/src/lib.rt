@@ -1,17 +1,19 @@
-//! Answers to logs of events: the history of a log, judged, explained or written.
+//! Answers to logs of events: the history of a log, judged, explained or written. That is its history by what is forced of its null reads.
 //!
 //! It gives [`follow_log`], which carries out an order on a log, event by event as it is read, [`LoggedRun`], a log that was read once and
-//! answers any number of orders, and [`LogError`], why a log has no answer. The engine gives the answers on a history; log_events and
-//! log_reader define which history a log has.
+//! answers any number of orders, and [`LogError`], why a log has no answer. The engine gives the answers on a history; log_events,
+//! log_choices and log_reader define which history a log has.
 #![tactic(auto)]
 
 mod alone;
 mod answering;
 mod failure;
 mod following;
+mod forced_history;
 mod judging;
 mod late_writes;
 pub mod laws;
+mod left_out;
 mod line_numbers;
 mod logged_run;
 mod noting;
@@ -28,4 +30,5 @@ pub use failure::{LogError, error_lines, status_of_error};
 pub use following::{Followed, Rest, follow_log};
 pub use judging::report_on_log;
 pub use late_writes::LateWrite;
+pub use left_out::reads_left_out;
 pub use logged_run::LoggedRun;

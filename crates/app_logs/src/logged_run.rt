@@ -3,17 +3,19 @@
 ghost use Rattle.std.specs.Prelude.{◌≡◌, ◌≢◌, IfErr, IfOk, IfSome, OnOk, string_bytes};
 ghost use Rattle.std.specs.Io.KnownBytes.{IsAtEnd};
 ghost use Rattle.json_lines.specs.ReadCalls.{IsFurther};
-ghost use Rattle.log_events.specs.Histories.{history_of};
+ghost use Rattle.log_choices.specs.ChoiceTables.{choice_in};
+ghost use Rattle.log_choices.specs.ChosenHistories.{history_by};
 ghost use Rattle.log_reader.specs.Logs.{IsLogOf};
 ghost use Rattle.app_explanations.specs.ExplanationTexts.{IsExplainedAs};
 ghost use Rattle.app_explanations.specs.ListTexts.{IsListOf};
-ghost use Rattle.app_logs.specs.LogAnswers.{IsLogAnswer, IsLogError};
+ghost use Rattle.app_logs.specs.LogAnswers.{IsLogAnswerBy, IsLogError};
 ghost use Rattle.app_logs.specs.LogTexts.{AreCallLines, AreNames};
 ghost use Rattle.app_logs.specs.ReadCalls.{ReadsWholeBy};
-ghost use Rattle.app_logs.specs.Reports.{IsReportOn, any_history_of};
+ghost use Rattle.app_logs.specs.Reports.{IsForcedIn, IsReportBy};
 
 use crate::answering::answer_of_report;
 use crate::failure::LogError;
+use crate::forced_history::{forced_in, history_as_seen};
 use crate::line_numbers::lines_text;
 use crate::noting::notes_text;
 use crate::reading::{WholeLog, read_log};
@@ -25,20 +27,25 @@ use app_engine::{
 use app_orders::{LogJudging, LogOrder};
 use json_lines::Source;
 use judge_memory::LongHistory;
+use log_choices::{Seen, left_out_by, origins_by};
 use log_events::LoggedCall;
 use log_reader::EventReader;
+use model_objects::Table;
 use order_causal::Rows;
 use show_log_names::LogNames;
 use std::alloc::{AllocError, Global};
 use std::marker::Model;
 
-/// The run that a log records: the log, which was read to its end, its history, and what it says of the operations of that history.
+/// The run that a log records: the log, which was read to its end, its history by what is forced of its null reads, and what it says of
+/// the operations of that history.
 ///
 /// It answers any number of orders, and reads the log once.
 #[derive(Drop)]
 pub struct LoggedRun {
     pub(crate) reader: EventReader,
     torn: bool,
+    /// What null reads saw, as far as it is forced.
+    saw: Table<Seen>,
     history: LongHistory,
     /// For each session of the history, the calls that its operations represent.
     pub(crate) calls: Rows<LoggedCall>,
@@ -52,9 +59,9 @@ impl Model for LoggedRun {
 
     ghost Value = { ReadLog };
 
-    ghost view = { λ run. record { log = run.reader.log; torn = run.torn } };
+    ghost view = { λ run. record { log = run.reader.log; torn = run.torn; saw = run.saw } };
 
-    ghost invariant = { λ run. KeepsRun run.reader.log.events run.history run.calls };
+    ghost invariant = { λ run. KeepsRun run.reader.log.events run.saw run.history run.calls };
 }
 
 impl LoggedRun {
@@ -62,13 +69,15 @@ impl LoggedRun {
     ///
     /// Fails with the first line that is refused, and then appends to `details` what [`error_lines`](crate::error_lines) says of it besides
     /// its reason; for want of memory; and with a read fault only where a read call failed, or a line did not end in as many calls as are
-    /// made for one. No read call is made after the end or after one that failed. O(n log n) for n calls and clients, and O(n) for n bytes.
+    /// made for one. No read call is made after the end or after one that failed. O(n log n) for n calls and clients, the cost of
+    /// `log_choices::forced_reads`, and O(n) for n bytes.
     pub fn read<R: Source>(
         alloc: Global,
         source: &mut R,
         details: &mut String,
     ) -> Result<LoggedRun, LogError>
         ensures whole { IfOk result (λ run. IfSome (R.remaining source.old) (λ bytes. IsLogOf bytes run.log run.torn)) }
+        ensures forced { IfOk result (λ run. IsForcedIn run.log.in_time run.log.events run.saw) }
         ensures end { OnOk result (IsAtEnd (R.remaining source.new)) }
         ensures error { IfErr result (IsLogError (R.remaining source.old)) }
         ensures unwritten { IfErr result (λ e. e ≢ LogError.WriteFault) }
@@ -84,18 +93,21 @@ impl LoggedRun {
 
     /// The run of a log that was read.
     ///
-    /// Fails for want of memory alone. O(n log n) for n calls and clients.
+    /// Fails for want of memory alone. O(n log n) for n calls and clients, and the cost of `log_choices::forced_reads`.
     pub(crate) fn of(alloc: Global, whole: WholeLog) -> Result<LoggedRun, AllocError>
         ensures log { IfOk result (λ run. run.log ≡ whole.reader.log) }
         ensures torn { IfOk result (λ run. run.torn ≡ whole.torn) }
+        ensures forced { IfOk result (λ run. IsForcedIn run.log.in_time run.log.events run.saw) }
     {
         let WholeLog { reader, torn } = whole;
-        let history = reader.log().history(alloc)?;
-        let calls = reader.log().origins(alloc)?;
-        let left_out = reader.log().left_out(alloc)?;
+        let saw = forced_in(alloc, reader.log(), reader.is_in_time())?;
+        let history = history_as_seen(alloc, reader.log(), &saw)?;
+        let calls = origins_by(alloc, reader.log(), &saw)?;
+        let left_out = left_out_by(alloc, reader.log(), &saw)?;
         Ok(LoggedRun {
             reader,
             torn,
+            saw,
             history,
             calls,
             left_out,
@@ -121,7 +133,7 @@ impl LoggedRun {
     ) -> Result<Answered, LogError>
         requires can_check { W.can_check work.now }
         requires can_work { W.can_work work.now }
-        ensures answer { IfOk result (λ answer. IsLogAnswer order.now self.now.log (string_bytes answer.text) answer.outcome) }
+        ensures answer { IfOk result (λ answer. IsLogAnswerBy self.now.saw order.now self.now.log (string_bytes answer.text) answer.outcome) }
         ensures error { IfErr result (λ e. e ≡ LogError.Memory) }
     {
         let history = self.history();
@@ -150,7 +162,7 @@ impl LoggedRun {
     ) -> Result<Answered, LogError>
         requires { W.can_work work.now }
         ensures answer { IfOk result (λ answer.
-            IsLogAnswer (LogOrder.Judge judging) self.now.log (string_bytes answer.text) answer.outcome) }
+            IsLogAnswerBy self.now.saw (LogOrder.Judge judging) self.now.log (string_bytes answer.text) answer.outcome) }
         ensures error { IfErr result (λ e. e ≡ LogError.Memory) }
     {
         let report = self.report(work, alloc)?;
@@ -160,16 +172,16 @@ impl LoggedRun {
     // The report on the log.
     fn report<W: SessionWork>(&self, work: &W, alloc: Global) -> Result<Findings, RunError>
         requires { W.can_work work.now }
-        ensures report { IfOk result (IsReportOn self.now.log.events) }
+        ensures report { IfOk result (IsReportBy self.now.log.events self.now.saw) }
         ensures error { IfErr result (λ e. e ≡ RunError.Memory) }
     {
         let report = report_on_long(work, alloc, self.history())?;
         Ok(report)
     }
 
-    // The history that the log represents.
+    // The history of the log by what is forced of its null reads.
     fn history(&self) -> &LongHistory
-        ensures { result.now ≡ history_of self.now.log.events }
+        ensures { result.now ≡ history_by self.now.log.events (choice_in self.now.saw) }
     {
         &self.history
     }
@@ -184,10 +196,10 @@ impl LoggedRun {
     /// The lines of its calls as JSON and a line feed: for each session of the history a list with the line of each operation, from 1. That
     /// is the line on which its call begins. Where the line of its end has a note, the operation has a list of both lines.
     ///
-    /// A lost write that was read is three operations with the same lines. Fails for want of memory alone. O(n) for n calls and bytes of
+    /// A lost write or delete that was seen is three operations with the same lines. Fails for want of memory alone. O(n) for n calls and bytes of
     /// their notes. Tests, not proofs, cover which calls have a second line, and which line that is.
     pub fn call_lines(&self, alloc: Global) -> Result<String, AllocError>
-        ensures { IfOk result (λ text. AreCallLines self.now.log (string_bytes text)) }
+        ensures { IfOk result (λ text. AreCallLines self.now.saw self.now.log (string_bytes text)) }
     {
         lines_text(alloc, &self.reader, &self.calls)
     }

@@ -1,6 +1,8 @@
 //! What a log that was read says about the operations of its history, and about its names.
 
 ghost use Rattle.std.specs.Prelude.{◌≡◌, IfOk, string_bytes};
+ghost use Rattle.log_choices.specs.ChoiceTables.{choice_in};
+ghost use Rattle.log_choices.specs.ChosenOrigins.{origins_by};
 ghost use Rattle.log_reader.specs.EventLines.{line_at as line_in};
 ghost use Rattle.show_log_names.specs.TableNames.{IsNameAt};
 
@@ -35,6 +37,8 @@ pub(crate) fn name_in(alloc: Global, names: &Names, number: u32) -> Result<Strin
 
 impl LogTables for LoggedRun {
     ghost log = { λ run. run.log };
+
+    ghost calls = { λ run. origins_by run.log.events (choice_in run.saw) };
 
     fn stood_for(&self, op: OpId) -> Option<StoodFor> {
         let session = op.session_place();

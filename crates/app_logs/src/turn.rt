@@ -56,7 +56,7 @@ pub(crate) fn write_cut<K: SessionWork, W: Sink>(
     ensures passed_on { OnOk result (PassesOn W.called writer.old writer.new) }
     ensures write_fault { result ≡ Err LogError.WriteFault → FailsToTake W.called MAX_WRITE_CALLS writer.old writer.new }
 {
-    let report = report_on_log(work, alloc, log)?;
+    let report = report_on_log(work, alloc, log, true)?;
     let line = line_of_cut(alloc, log.events(), &report);
     let outcome = outcome_of(&report, expected);
     drop(report);

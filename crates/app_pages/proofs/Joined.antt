@@ -5,16 +5,17 @@ use Rattle.app_orders.specs.declared.form.LongForm.TheVariants as long_forms
 use Rattle.app_orders.specs.declared.length.Length.{Length}
 use Rattle.app_orders.specs.declared.log_order.LogOrder.TheVariants.{Explain, ListFaults, WriteHistory, WriteNames, WriteNotes}
 use Rattle.app_engine.specs.Running.{IsOutput}
+use Rattle.log_choices.specs.declared.seen.Seen.{Seen}
 use Rattle.log_reader.specs.Logs.{Log}
 use Rattle.show_page.specs.Pages.{page, said}
 use Rattle.app_logs.specs.LogTexts.{AreCallLines}
 use Rattle.app_pages.specs.Steps.Answers.{IsAnswerTo}
 use Rattle.app_pages.specs.Writing.{CountsReads, IsPageOf, IsPageOfInput, IsSaidOfInput, IsSaidOfLog, list_order, listing_order, picture_order, words_order}
 
-pub answers_make_said : (most counted : ℕ) (log : Log) (report words list picture part : List ℕ) → CountsReads report counted
-    → IsAnswerTo (Explain long_forms.Words) log words → IsAnswerTo (ListFaults most list_forms.Words) log list
-    → IsAnswerTo (Explain long_forms.Picture) log picture → part ≡ said words (counted - most) list picture → IsSaidOfLog log report part
-answers_make_said most counted log report words list picture part is_counted first second third is_said = record {
+pub answers_make_said : (most counted : ℕ) (saw : List (ℕ × Seen)) (log : Log) (report words list picture part : List ℕ) → CountsReads report counted
+    → IsAnswerTo saw (Explain long_forms.Words) log words → IsAnswerTo saw (ListFaults most list_forms.Words) log list
+    → IsAnswerTo saw (Explain long_forms.Picture) log picture → part ≡ said words (counted - most) list picture → IsSaidOfLog saw log report part
+answers_make_said most counted saw log report words list picture part is_counted first second third is_said = record {
   words = words;
   most = most;
   counted = counted;
@@ -27,11 +28,11 @@ answers_make_said most counted log report words list picture part is_counted fir
   is_said = is_said;
 }
 
-pub answers_make_page : (most : ℕ) (log : Log) (history report names lines notes part text : List ℕ) → IsAnswerTo WriteHistory log history
-    → IsAnswerTo (ListFaults most list_forms.Json) log report → IsAnswerTo WriteNames log names → AreCallLines log lines → IsAnswerTo WriteNotes log notes
-    → IsSaidOfLog log report part
-    → text ≡ page history report names lines notes part → IsPageOf most log text
-answers_make_page most log history report names lines notes part text first second named are_lines third is_said is_page = record {
+pub answers_make_page : (most : ℕ) (saw : List (ℕ × Seen)) (log : Log) (history report names lines notes part text : List ℕ) → IsAnswerTo saw WriteHistory log history
+    → IsAnswerTo saw (ListFaults most list_forms.Json) log report → IsAnswerTo saw WriteNames log names → AreCallLines saw log lines → IsAnswerTo saw WriteNotes log notes
+    → IsSaidOfLog saw log report part
+    → text ≡ page history report names lines notes part → IsPageOf most saw log text
+answers_make_page most saw log history report names lines notes part text first second named are_lines third is_said is_page = record {
   history = history;
   report = report;
   names = names;

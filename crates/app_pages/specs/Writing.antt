@@ -17,8 +17,10 @@ use Rattle.app_engine.specs.Running.{IsOfInput, IsOutput}
 use Rattle.json_lines.specs.declared.outcome.Outcome.TheVariants.{Met}
 use Rattle.log_reader.specs.Logs.{IsLogOf, IsRefusedLog, Log as EventLog}
 use Rattle.app_logs.specs.declared.failure.LogError.TheVariants.{Refused, Memory, ReadFault, WriteFault}
-use Rattle.app_logs.specs.LogAnswers.{IsLogAnswer}
+use Rattle.app_logs.specs.LogAnswers.{IsLogAnswerBy}
 use Rattle.app_logs.specs.LogTexts.{AreCallLines}
+use Rattle.app_logs.specs.Reports.{IsForcedIn}
+use Rattle.log_choices.specs.declared.seen.Seen.{Seen}
 use Rattle.show_page.specs.Pages.{page, said}
 use Rattle.app_pages.specs.declared.failure.PageError.{PageError}
 use Rattle.app_pages.specs.declared.failure.PageError.TheVariants.{TooLong, Log}
@@ -76,40 +78,42 @@ pub record IsPageOfInput (most : ℕ) (long : Length) (input text : List ℕ) : 
   pub is_said : IsSaidOfInput long input report part
   pub is_page : text ≡ page input report (codes "null") (codes "null") (codes "[]") part
 
--- the same of a log
-pub record IsSaidOfLog (log : EventLog) (report part : List ℕ) : Type 0 where
+-- the same of a log, by what its null reads saw
+pub record IsSaidOfLog (saw : List (ℕ × Seen)) (log : EventLog) (report part : List ℕ) : Type 0 where
   pub words : List ℕ
   pub most : ℕ
   pub counted : ℕ
   pub list : List ℕ
   pub picture : List ℕ
-  pub are_words : IsLogAnswer (logs.Explain long_forms.Words) log words Met
+  pub are_words : IsLogAnswerBy saw (logs.Explain long_forms.Words) log words Met
   pub is_counted : CountsReads report counted
-  pub is_list : IsLogAnswer (logs.ListFaults most list_forms.Words) log list Met
-  pub is_picture : IsLogAnswer (logs.Explain long_forms.Picture) log picture Met
+  pub is_list : IsLogAnswerBy saw (logs.ListFaults most list_forms.Words) log list Met
+  pub is_picture : IsLogAnswerBy saw (logs.Explain long_forms.Picture) log picture Met
   pub is_said : part ≡ said words (counted - most) list picture
 
--- the text is the page of what is answered to a log, and of the lines of its calls
-pub record IsPageOf (most : ℕ) (log : EventLog) (text : List ℕ) : Type 0 where
+-- the text is the page of what is answered to a log by what its null reads saw, and of the lines of its calls
+pub record IsPageOf (most : ℕ) (saw : List (ℕ × Seen)) (log : EventLog) (text : List ℕ) : Type 0 where
   pub history : List ℕ
   pub report : List ℕ
   pub names : List ℕ
   pub lines : List ℕ
   pub notes : List ℕ
   pub part : List ℕ
-  pub is_history : IsLogAnswer logs.WriteHistory log history Met
-  pub is_report : IsLogAnswer (logs.ListFaults most list_forms.Json) log report Met
-  pub are_names : IsLogAnswer logs.WriteNames log names Met
-  pub are_lines : AreCallLines log lines
-  pub are_notes : IsLogAnswer logs.WriteNotes log notes Met
-  pub is_said : IsSaidOfLog log report part
+  pub is_history : IsLogAnswerBy saw logs.WriteHistory log history Met
+  pub is_report : IsLogAnswerBy saw (logs.ListFaults most list_forms.Json) log report Met
+  pub are_names : IsLogAnswerBy saw logs.WriteNames log names Met
+  pub are_lines : AreCallLines saw log lines
+  pub are_notes : IsLogAnswerBy saw logs.WriteNotes log notes Met
+  pub is_said : IsSaidOfLog saw log report part
   pub is_page : text ≡ page history report names lines notes part
 
--- and of the one log that these bytes have
+-- and of the one log that these bytes have, by what is forced
 pub record IsPageOfLog (most : ℕ) (torn : Bool) (bytes text : List ℕ) : Type 0 where
   pub log : EventLog
+  pub saw : List (ℕ × Seen)
   pub of_bytes : IsLogOf bytes log torn
-  pub is_page : IsPageOf most log text
+  pub forced : IsForcedIn log.in_time log.events saw
+  pub is_page : IsPageOf most saw log text
 
 -- an input of no more than so many bytes was read whole, and a page of it was written whole: what the reader had, where it tells its
 -- bytes, and what the writer holds after what it held, where it tells its bytes

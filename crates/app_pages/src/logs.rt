@@ -121,7 +121,7 @@ fn page_of_run<W: PieceWork + SessionWork>(
 ) -> Result<Vec<u8>, LogError>
     requires can_check { W.can_check work.now }
     requires can_work { W.can_work work.now }
-    ensures page { IfOk result (λ bytes. IsPageOf most run.now.log bytes.items) }
+    ensures page { IfOk result (λ bytes. IsPageOf most run.now.saw run.now.log bytes.items) }
     ensures error { IfErr result (λ e. e ≡ LogError.Memory) }
 {
     let history = answer_of(work, alloc, run, LogOrder::WriteHistory)?;
@@ -152,7 +152,7 @@ fn said_of_run<W: PieceWork + SessionWork>(
 ) -> Result<Vec<u8>, LogError>
     requires can_check { W.can_check work.now }
     requires can_work { W.can_work work.now }
-    ensures said { IfOk result (λ bytes. IsSaidOfLog run.now.log report.now bytes.items) }
+    ensures said { IfOk result (λ bytes. IsSaidOfLog run.now.saw run.now.log report.now bytes.items) }
     ensures error { IfErr result (λ e. e ≡ LogError.Memory) }
 {
     let most = most.min(MOST_SAID);
@@ -184,7 +184,7 @@ fn answer_of<W: PieceWork + SessionWork>(
 ) -> Result<String, LogError>
     requires can_check { W.can_check work.now }
     requires can_work { W.can_work work.now }
-    ensures answer { IfOk result (λ text. IsAnswerTo order run.now.log (string_bytes text)) }
+    ensures answer { IfOk result (λ text. IsAnswerTo run.now.saw order run.now.log (string_bytes text)) }
     ensures error { IfErr result (λ e. e ≡ LogError.Memory) }
 {
     let answer = run.answer(work, alloc, &order)?;

@@ -2,7 +2,6 @@
 use Rattle.std.specs.Prelude.{ℕ, zero, suc, Bool, true, false, List, [], ◌++◌, codes, decimal, nat_le, Option, Some, None, slice_get, slice_index_or}
 use Rattle.log_events.specs.Events.{Call}
 use Rattle.log_events.specs.Histories.{clients}
-use Rattle.log_events.specs.Origins.{origins_of}
 use Rattle.log_events.specs.declared.event.Ending.{Ending}
 use Rattle.log_events.specs.declared.event.Ending.TheVariants.{Answered, Got, GotNothing, Failed, Lost}
 use Rattle.log_reader.specs.EventLines.{line_at}
@@ -10,19 +9,19 @@ use Rattle.log_reader.specs.Logs.{Log}
 use Rattle.model_history.specs.declared.op_id.OpId.{OpId}
 use Rattle.show_log_names.specs.declared.log_tables.StoodFor.{StoodFor}
 
--- the call that an operation of the history represents
-abbrev pub origin_of : Log → OpId → Option Call
-origin_of log op = slice_get (slice_index_or (origins_of log.events) op.session []) op.index
+-- the call that an operation of the history represents, by the calls of the operations of each session
+abbrev pub origin_of : List (List Call) → OpId → Option Call
+origin_of calls op = slice_get (slice_index_or calls op.session []) op.index
 
 abbrev pub stood_for : Call → StoodFor
 stood_for a = record { client = a.client; place = a.place; call = a.call; ending = a.ending }
 
--- the sessions after those of clients are those of lost writes
-abbrev pub is_of_lost_write : Log → OpId → Bool
-is_of_lost_write log op = nat_le (clients log.events) op.session
+-- the sessions after those of clients are those of lost writes and deletes
+abbrev pub is_of_lost_call : Log → OpId → Bool
+is_of_lost_call log op = nat_le (clients log.events) op.session
 
--- which of the three operations of a lost write that was read it is: the write of its mark by the client, the read of the mark, or the
--- write itself, of which nothing more is said
+-- which of the three operations of a lost write or delete that was seen it is: the write of its mark by the client, the read of the mark,
+-- or the write or delete itself, of which nothing more is said
 abbrev pub role : Bool → ℕ → Option Ending → List ℕ
 role true zero ending = codes " (later)"
 role true (suc i) ending = []
@@ -38,8 +37,8 @@ number_name op = decimal op.session ++ (codes "." ++ decimal op.index)
 
 -- an operation is named by the line on which its call begins; one that the history has not, by its numbers
 abbrev pub name_by : Log → OpId → Option Call → List ℕ
-name_by log op (Some a) = codes "line " ++ (decimal (line_at log a.place) ++ role (is_of_lost_write log op) op.index a.ending)
+name_by log op (Some a) = codes "line " ++ (decimal (line_at log a.place) ++ role (is_of_lost_call log op) op.index a.ending)
 name_by log op None = number_name op
 
-abbrev pub operation_name : Log → OpId → List ℕ
-operation_name log op = name_by log op (origin_of log op)
+abbrev pub operation_name : Log → List (List Call) → OpId → List ℕ
+operation_name log calls op = name_by log op (origin_of calls op)

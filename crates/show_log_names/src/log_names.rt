@@ -2,14 +2,14 @@
 
 ghost use Rattle.std.specs.Prelude.{◌≡◌, IfOk, string_bytes};
 ghost use Rattle.log_reader.specs.EventLines.{line_at};
-ghost use Rattle.show_log_names.specs.OperationLines.{is_of_lost_write, number_name, operation_name, role};
+ghost use Rattle.show_log_names.specs.OperationLines.{is_of_lost_call, number_name, operation_name, role};
 
 use crate::log_tables::{LogTables, StoodFor};
 use crate::notes::with_notes;
 use crate::phrases::{
-    call_label, call_words, client_name, fork_label, fork_words, key_words, value_name,
+    call_label, call_words, client_name, fork_label, fork_words, key_words, lost_call, value_name,
 };
-use log_events::Ending;
+use log_events::{ClientCall, Ending};
 use model_history::OpId;
 use show_words::{Names, counted, listed};
 use std::alloc::{AllocError, Global};
@@ -19,8 +19,8 @@ const MAX_KEYS: usize = 8;
 
 /// The names that a log has, for the history that it represents.
 ///
-/// An operation is named by the line on which its call begins. A lost write that was read is three operations: `line 160 (call)` is the
-/// write of its mark in the session of its client, `line 160 (later)` the read of the mark, and `line 160` the write itself.
+/// An operation is named by the line on which its call begins. A lost write or delete that was seen is three operations: `line 160 (call)`
+/// is the write of its mark in the session of its client, `line 160 (later)` the read of the mark, and `line 160` the write or delete itself.
 #[derive(Clone, Copy)]
 pub struct LogNames<'a, T: LogTables> {
     pub tables: &'a T,
@@ -37,9 +37,9 @@ enum Held {
 }
 
 impl<'a, T: LogTables> LogNames<'a, T> {
-    // Whether the session of an operation is one of a lost write.
+    // Whether the session of an operation is one of a lost write or delete.
     fn is_in_fork(&self, op: OpId) -> bool
-        ensures { result ≡ is_of_lost_write (T.log self.now.tables.now) op }
+        ensures { result ≡ is_of_lost_call (T.log self.now.tables.now) op }
     {
         op.session >= self.tables.clients()
     }
@@ -66,7 +66,7 @@ impl<'a, T: LogTables> LogNames<'a, T> {
     }
 }
 
-// Whether a variable is the mark of a lost write, and no key.
+// Whether a variable is the mark of a lost write or delete, and no key.
 fn is_mark(key: u32) -> bool {
     key % 2 == 1
 }
@@ -110,10 +110,9 @@ impl<'a, T: LogTables> Names for LogNames<'a, T> {
     }
 
     fn sessions_words(&self, alloc: Global, count: usize) -> Result<String, AllocError> {
-        if count as u64 > self.tables.clients() {
-            format!(in alloc; "{count} clients and lost writes")
-        } else {
-            counted(alloc, count, "client")
+        match lost_words(self.tables, count as u64) {
+            Some(lost) => format!(in alloc; "{count} clients{lost}"),
+            None => counted(alloc, count, "client"),
         }
     }
 
@@ -123,7 +122,7 @@ impl<'a, T: LogTables> Names for LogNames<'a, T> {
     }
 
     fn operation(&self, alloc: Global, op: OpId) -> Result<String, AllocError>
-        ensures { IfOk result (λ text. string_bytes text ≡ operation_name (T.log self.now.tables.now) op) }
+        ensures { IfOk result (λ text. string_bytes text ≡ operation_name (T.log self.now.tables.now) (T.calls self.now.tables.now) op) }
     {
         match self.tables.stood_for(op) {
             Some(stood) => {
@@ -139,7 +138,8 @@ impl<'a, T: LogTables> Names for LogNames<'a, T> {
         match self.tables.stood_for(op) {
             Some(stood) if self.is_in_fork(op) => {
                 let line = self.line(stood);
-                format!(in alloc; "the lost write of line {line}")
+                let lost = lost_call(stood.call);
+                format!(in alloc; "the {lost} of line {line}")
             }
             Some(stood) => session_of_client(alloc, self.tables, stood.client),
             None => session_of_number(alloc, self.tables, op.session),
@@ -250,7 +250,34 @@ impl<'a, T: LogTables> Names for LogNames<'a, T> {
     }
 }
 
-// Which of the operations of a lost write an operation is.
+// What is said of the sessions beside those of clients, where this many sessions have some.
+fn lost_words<T: LogTables>(tables: &T, sessions: u64) -> Option<&'static str> {
+    let mut has_writes = false;
+    let mut has_deletes = false;
+    for session in tables.clients()..sessions {
+        if is_lost_delete(tables.stood_for(OpId { session, index: 0 })) {
+            has_deletes = true;
+        } else {
+            has_writes = true;
+        }
+    }
+    match (has_writes, has_deletes) {
+        (true, true) => Some(", lost writes and lost deletes"),
+        (true, false) => Some(" and lost writes"),
+        (false, true) => Some(" and lost deletes"),
+        (false, false) => None,
+    }
+}
+
+// Whether an operation of a lost call is of a delete.
+fn is_lost_delete(stood: Option<StoodFor>) -> bool {
+    match stood {
+        Some(stood) => matches!(stood.call, ClientCall::DeleteOf(_)),
+        None => false,
+    }
+}
+
+// Which of the operations of a lost write or delete an operation is.
 fn role_words(is_of_lost: bool, index: u64, ending: Option<Ending>) -> &'static str
     ensures { result.now ≡ role is_of_lost index ending }
 {
@@ -321,13 +348,14 @@ fn left_out_words(
     keys: usize,
     listed: &str,
 ) -> Result<String, AllocError> {
-    let (ending, they) = if reads == 1 {
-        ("", "it asks")
+    let (ending, saw, they) = if reads == 1 {
+        ("", "delete it", "it asks")
     } else {
-        ("s", "they ask")
+        ("s", "deletes they", "they ask")
     };
     let are = if keys == 1 { "is" } else { "are" };
     format!(in alloc;
-        "{reads} read{ending} found nothing at {listed}, which {are} deleted at some time: {they} nothing."
+        "{reads} read{ending} found nothing at {listed}, which {are} deleted at some time. \
+         Which {saw} saw, if any, is not known: {they} nothing."
     )
 }

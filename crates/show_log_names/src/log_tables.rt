@@ -1,6 +1,7 @@
 //! What is known of the operations of a log's history, and of its names.
 
-ghost use Rattle.std.specs.Prelude.{◌≡◌, option_map, IfOk, string_bytes};
+ghost use Rattle.std.specs.Prelude.{◌≡◌, List, option_map, IfOk, string_bytes};
+ghost use Rattle.log_events.specs.Events.{Call};
 ghost use Rattle.log_events.specs.Histories.{clients as clients_in};
 ghost use Rattle.log_reader.specs.EventLines.{line_at};
 ghost use Rattle.log_reader.specs.Logs.{Log};
@@ -41,11 +42,14 @@ pub trait LogTables {
     /// The log.
     ghost log: { Self → Log };
 
+    /// For each session of the history, the calls that its operations represent.
+    ghost calls: { Self → List (List Call) };
+
     /// The call that an operation of the history represents: none where the history has no such operation.
     fn stood_for(&self, op: OpId) -> Option<StoodFor>
-        ensures { result ≡ option_map stood_for_call (origin_of (log self.now) op) };
+        ensures { result ≡ option_map stood_for_call (origin_of (calls self.now) op) };
 
-    /// How many sessions are those of clients: the first ones. The others are those of lost writes.
+    /// How many sessions are those of clients: the first ones. The others are those of lost writes and deletes.
     fn clients(&self) -> u64
         ensures { result ≡ clients_in (log self.now).events };
 

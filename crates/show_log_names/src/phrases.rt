@@ -80,8 +80,7 @@ pub(crate) fn call_words<T: LogTables>(
         }
         ClientCall::DeleteOf(key) => {
             let key = key_words(alloc, tables, key)?;
-            let known = known_words(stood.ending);
-            format!(in alloc; "{client} deletes {key}{known}")
+            deleted_by(alloc, &client, &key, stood.ending)
         }
     }
 }
@@ -116,6 +115,24 @@ fn written_by(
     }
 }
 
+// A delete by a client.
+fn deleted_by(
+    alloc: Global,
+    client: &str,
+    key: &str,
+    ending: Option<Ending>,
+) -> Result<String, AllocError> {
+    match ending {
+        Some(Ending::Lost) => {
+            format!(in alloc; "{client} calls a delete of {key} and gets no answer")
+        }
+        _ => {
+            let known = known_words(ending);
+            format!(in alloc; "{client} deletes {key}{known}")
+        }
+    }
+}
+
 // A read by a client.
 fn read_by<T: LogTables>(
     alloc: Global,
@@ -145,7 +162,7 @@ fn known_words(ending: Option<Ending>) -> &'static str {
     }
 }
 
-/// What a lost write does in its own session: first it waits for all that its client called before, and then it takes effect.
+/// What a lost write or delete does in its own session: first it waits for all that its client called before, and then it takes effect.
 pub(crate) fn fork_words<T: LogTables>(
     alloc: Global,
     tables: &T,
@@ -159,9 +176,25 @@ pub(crate) fn fork_words<T: LogTables>(
             let words = format!(in alloc; "the lost write of {written} by {client} takes effect")?;
             with_notes(alloc, tables, words, stood.place)
         }
-        _ => format!(in alloc;
-            "the lost write of {client} comes after all that {client} had called before it"
-        ),
+        ClientCall::DeleteOf(key) if is_effect => {
+            let key = key_words(alloc, tables, key)?;
+            let words = format!(in alloc; "the lost delete of {key} by {client} takes effect")?;
+            with_notes(alloc, tables, words, stood.place)
+        }
+        call => {
+            let lost = lost_call(call);
+            format!(in alloc;
+                "the {lost} of {client} comes after all that {client} had called before it"
+            )
+        }
+    }
+}
+
+/// What a call is called that was lost.
+pub(crate) fn lost_call(call: ClientCall) -> &'static str {
+    match call {
+        ClientCall::DeleteOf(_) => "lost delete",
+        ClientCall::WriteTo(_, _) | ClientCall::ReadOf(_) => "lost write",
     }
 }
 
@@ -227,7 +260,7 @@ fn end_label(ending: Option<Ending>) -> &'static str {
     }
 }
 
-/// The label of an operation of a lost write's own session.
+/// The label of an operation of the own session of a lost write or delete.
 pub(crate) fn fork_label<T: LogTables>(
     alloc: Global,
     tables: &T,
@@ -236,6 +269,10 @@ pub(crate) fn fork_label<T: LogTables>(
 ) -> Result<String, AllocError> {
     match stood.call {
         ClientCall::WriteTo(key, value) if is_effect => write_label(alloc, tables, key, value),
+        ClientCall::DeleteOf(key) if is_effect => {
+            let key = key_name(alloc, tables, key)?;
+            format!(in alloc; "del {key}")
+        }
         _ => {
             let line = tables.line(stood.place);
             format!(in alloc; "after the call of line {line}")

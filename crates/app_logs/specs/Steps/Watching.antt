@@ -1,5 +1,5 @@
 -- What a turn of judging a log while it is read begins with, and what comes of it.
-use Rattle.std.specs.Prelude.{◌≡◌, ◌≢◌, ◌⊎◌, ◌*◌, ◌<◌, ℕ, suc, false, List, Option, None, length}
+use Rattle.std.specs.Prelude.{◌≡◌, ◌≢◌, ◌⊎◌, ◌*◌, ◌<◌, ℕ, suc, false, List, Option, None, length, true}
 use Rattle.std.specs.Io.KnownBytes.{Appends, Consumes}
 use Rattle.app_orders.specs.declared.expected.Expected.{Expected}
 use Rattle.json_lines.specs.declared.outcome.Outcome.{Outcome}
@@ -17,7 +17,7 @@ use Rattle.app_logs.specs.Reports.{AreCutLines, IsReportOn, cut_line, multiples}
 -- the line on all these events was written, and this came of their report
 pub record WritesCut (expected : Expected) (events : List Event) (writer_before writer_after : Option (List ℕ)) (outcome : Outcome) : Type 0 where
   pub report : Findings
-  pub on : IsReportOn events report
+  pub on : IsReportOn true events report
   pub comes : outcome ≡ outcome_for expected report
   pub written : Appends writer_before writer_after (cut_line (length events) report)
 

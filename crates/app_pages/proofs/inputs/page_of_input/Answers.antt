@@ -1,5 +1,5 @@
 -- A page that could not be written is one of the input that was read.
-use Rattle.std.proofs.Common.{◌≡◌, ◌≤◌, ℕ, List, length, rules, subst, sym}
+use Rattle.std.proofs.Common.{◌≤◌, ℕ, List, length, rules, subst, sym}
 use Rattle.std.proofs.lemmas.Result.{err_from_is_err_and}
 use Rattle.json_lines.specs.WriteCalls.{AppendsFront}
 use Rattle.app_engine.specs.InputLengths.{most_bytes}
