@@ -133,7 +133,8 @@ impl LoggedRun {
     ) -> Result<Answered, LogError>
         requires can_check { W.can_check work.now }
         requires can_work { W.can_work work.now }
-        ensures answer { IfOk result (λ answer. IsLogAnswerBy self.now.saw order.now self.now.log (string_bytes answer.text) answer.outcome) }
+        ensures answer { IfOk result (λ answer.
+            IsLogAnswerBy self.now.saw order.now self.now.log (string_bytes answer.text) answer.outcome) }
         ensures error { IfErr result (λ e. e ≡ LogError.Memory) }
     {
         let history = self.history();
@@ -196,8 +197,10 @@ impl LoggedRun {
     /// The lines of its calls as JSON and a line feed: for each session of the history a list with the line of each operation, from 1. That
     /// is the line on which its call begins. Where the line of its end has a note, the operation has a list of both lines.
     ///
-    /// A lost write or delete that was seen is three operations with the same lines. Fails for want of memory alone. O(n) for n calls and bytes of
-    /// their notes. Tests, not proofs, cover which calls have a second line, and which line that is.
+    /// A lost write or delete that was seen is three operations with the same lines.
+    ///
+    /// Fails for want of memory alone. O(n) for n calls and bytes of their notes. Tests, not proofs, cover which calls have a
+    /// second line, and which line that is.
     pub fn call_lines(&self, alloc: Global) -> Result<String, AllocError>
         ensures { IfOk result (λ text. AreCallLines self.now.saw self.now.log (string_bytes text)) }
     {

@@ -24,11 +24,12 @@ const MAX_COUNTS: u64 = 268_435_456;
 /// the order of time: then no delete is a candidate that begins after the read had ended.
 ///
 /// A candidate is taken out where the read comes before it, or another write or delete of the key that comes before the read comes after
-/// it. A read that is left with no candidate has the first delete of its key that was one, or else the start: then the log meets no
-/// criterion, and by this choice its history meets none.
+/// it. A read that is left with no candidate has one all the same, the first delete of its key or the start, since each but that one is
+/// out: then a log of distinct values meets no criterion ([`lack_of_candidates_is_a_no`](crate::laws::lack_of_candidates_is_a_no)).
 ///
 /// Not all that is forced is found: the calls are gone over at most eight times, a lost write or delete counts as one that replaces others
-/// only until more is known of its client, and nothing is found where the writes and deletes, or the clients, times the clients are more than 2^28.
+/// only until more is known of its client, and nothing is found where the writes and deletes, or the clients, times the clients are more
+/// than 2^28.
 ///
 /// Fails for want of memory alone. O(n k) for n calls and k clients, and for each null read O(k log n + d (k + log n)) for d deletes of
 /// its key. It takes 4 k bytes for each write, delete and client. A log in which no read got nothing takes O(n) and no memory.

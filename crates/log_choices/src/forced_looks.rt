@@ -1,6 +1,7 @@
 //! What a null read can have seen, by what is known to come before it.
 
-ghost use Rattle.std.specs.Prelude.{◌≡◌, ◌≢◌, ◌<◌, ◌≤◌, ◌*◌, ℕ, suc, List, All, Contains, IfOk, IsTrue, OnOk, Some, None, false, slice_get};
+ghost use Rattle.std.specs.Prelude.{◌≡◌, ◌≢◌, ◌<◌, ◌≤◌, ◌*◌, ℕ, suc, List, All, Contains, IfOk, IsTrue, OnOk, Some, None};
+ghost use Rattle.std.specs.Prelude.{false, slice_get};
 ghost use Rattle.log_events.specs.declared.event.Event.TheVariants.{Starts};
 ghost use Rattle.log_events.specs.Events.{IsAt};
 ghost use Rattle.log_choices.specs.Choices.{BeginsKeptDelete};
@@ -71,8 +72,8 @@ impl Plan {
         requires read { GetsNothing timed.now.log.now read }
         requires replacing { All (IsReplacing timed.now.in_time timed.now.log.now self.now.writes.items read.key read.place) replacing.now }
         ensures left { IsTrue result → (k v : ℕ) → ¬ IsAt timed.now.log.now k (Starts read.key v) }
-        ensures out { result ≡ false → (p : ℕ) → BeginsKeptDelete timed.now.log.now read.key p → ((k v : ℕ) → ¬ IsAt timed.now.log.now k (Starts read.key v))
-            → IsOut timed.now.in_time timed.now.log.now read.place None }
+        ensures out { result ≡ false → (p : ℕ) → BeginsKeptDelete timed.now.log.now read.key p
+            → ((k v : ℕ) → ¬ IsAt timed.now.log.now k (Starts read.key v)) → IsOut timed.now.in_time timed.now.log.now read.place None }
     {
         if !replacing.is_empty() {
             return false;
@@ -80,8 +81,8 @@ impl Plan {
         !is_started(timed.log, read.key)
     }
 
-    /// For each client its last write or delete of the key that is known to come before a read, by its number, and what is known last of the
-    /// client, if it is one.
+    /// For each client its last write or delete of the key that is known to come before a read, by its number, and its last call that is
+    /// known to come before, if it is one.
     ///
     /// Fails for want of memory alone. O(k log n) for n writes and k clients.
     fn replacing(
@@ -93,7 +94,8 @@ impl Plan {
     ) -> Result<Vec<u32>, AllocError>
         requires plan { IsPlan timed.now.in_time timed.now.log.now self.now }
         requires past { IsPast timed.now.in_time timed.now.log.now past.now read.place }
-        ensures { IfOk result (λ numbers. All (IsReplacing timed.now.in_time timed.now.log.now self.now.writes.items read.key read.place) numbers.items) }
+        ensures { IfOk result (λ numbers.
+            All (IsReplacing timed.now.in_time timed.now.log.now self.now.writes.items read.key read.place) numbers.items) }
     {
         let mut numbers = Vec::new(alloc);
         for client in 0..timed.log.clients() {
@@ -118,8 +120,10 @@ impl Plan {
     ) -> Result<(), AllocError>
         requires plan { IsPlan timed.now.in_time timed.now.log.now self.now }
         requires past { IsPast timed.now.in_time timed.now.log.now past.now read.place }
-        requires numbers { All (IsReplacing timed.now.in_time timed.now.log.now self.now.writes.items read.key read.place) numbers.old.items }
-        ensures { OnOk result (All (IsReplacing timed.now.in_time timed.now.log.now self.now.writes.items read.key read.place) numbers.new.items) }
+        requires numbers { All
+            (IsReplacing timed.now.in_time timed.now.log.now self.now.writes.items read.key read.place) numbers.old.items }
+        ensures { OnOk result
+            (All (IsReplacing timed.now.in_time timed.now.log.now self.now.writes.items read.key read.place) numbers.new.items) }
     {
         if let Some(number) = number
             && self.replaces(timed, number, read, past)

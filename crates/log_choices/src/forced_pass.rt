@@ -1,6 +1,7 @@
 //! A pass over the calls of a log that finds what is forced.
 
-ghost use Rattle.std.specs.Prelude.{◌≡◌, ◌↔◌, ◌⊎◌, ◌<◌, ◌≤◌, ◌+◌, ◌*◌, [], ℕ, All, Contains, IfOk, IfSome, IsTrue, OnOk, Some, slice_get, vec_len};
+ghost use Rattle.std.specs.Prelude.{◌≡◌, ◌↔◌, ◌⊎◌, ◌<◌, ◌≤◌, ◌+◌, ◌*◌, [], ℕ, All, Contains, IfOk, IfSome, IsTrue, OnOk, Some};
+ghost use Rattle.std.specs.Prelude.{slice_get, vec_len};
 ghost use Rattle.log_events.specs.declared.event.ClientCall.TheVariants.{ReadOf};
 ghost use Rattle.log_events.specs.declared.event.Ending.TheVariants.{Got, GotNothing, Failed, Lost};
 ghost use Rattle.log_events.specs.Events.{run_calls};

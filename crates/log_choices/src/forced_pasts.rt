@@ -32,7 +32,8 @@ fn join(past: &mut [u32], other: &[u32])
 /// Adds to what comes before a call a write or delete that comes before it.
 pub(crate) fn follow(past: &mut [u32], write: &Kept)
     requires { write.now.place + 1 < 2 ^ 32 }
-    ensures { (in_time : Bool) (es : List Happened) (q : ℕ) → IsKeptWrite in_time es write.now → Comes in_time es write.now.place q → IsPast in_time es past.old q
+    ensures { (in_time : Bool) (es : List Happened) (q : ℕ) → IsKeptWrite in_time es write.now
+        → Comes in_time es write.now.place q → IsPast in_time es past.old q
         → IsPast in_time es past.new q }
 {
     join(past, &write.past);
@@ -41,7 +42,8 @@ pub(crate) fn follow(past: &mut [u32], write: &Kept)
 
 /// Whether a write or delete is known to come before a call, by what comes before the call.
 pub(crate) fn precedes(write: &Kept, past: &[u32]) -> bool
-    ensures { (in_time : Bool) (es : List Happened) (q : ℕ) → IsKeptWrite in_time es write.now → IsPast in_time es past.now q → IsTrue result
+    ensures { (in_time : Bool) (es : List Happened) (q : ℕ) → IsKeptWrite in_time es write.now
+        → IsPast in_time es past.now q → IsTrue result
         → Comes in_time es write.now.place q }
 {
     let client = write.client as usize;

@@ -63,8 +63,8 @@ impl Plan {
         })
     }
 
-    /// The last write or delete of a key by a client among the calls that come before a call, by its number, but for lost ones. O(log n) for
-    /// n writes.
+    /// The last write or delete of a key by a client among the calls that come before a call, by its number, but for lost ones.
+    /// O(log n) for n writes.
     pub(crate) fn last_before(&self, key: u32, client: u32, past: &[u32]) -> Option<u32> {
         let place = past.get(client as usize).copied()?;
         let at = self.spots.partition_point(|spot| (spot.key, spot.client, spot.place)

@@ -94,7 +94,7 @@ fn small_logs(rt: HostRuntime) {
             Some(Seen::Delete(4)),
         ),
         (&[write(0, 0, 5), delete(2, 0), miss(1, 0)], 4, None),
-        // Nothing is left, and the read has the first delete.
+        // Nothing is left, and the read has a delete all the same.
         (
             &[late, gone, new, gone, new, lost],
             10,

@@ -20,7 +20,7 @@ const MAX_KEYS: usize = 8;
 /// The names that a log has, for the history that it represents.
 ///
 /// An operation is named by the line on which its call begins. A lost write or delete that was seen is three operations: `line 160 (call)`
-/// is the write of its mark in the session of its client, `line 160 (later)` the read of the mark, and `line 160` the write or delete itself.
+/// is the write of its mark in the session of its client, `line 160 (later)` the read of the mark, and `line 160` the write or delete.
 #[derive(Clone, Copy)]
 pub struct LogNames<'a, T: LogTables> {
     pub tables: &'a T,

@@ -16,7 +16,7 @@ pub const OPENING: &str = r#"<!DOCTYPE html>
 <head>
 <meta charset="utf-8">
 <meta http-equiv="Content-Security-Policy" content="default-src 'none'; base-uri 'none'; form-action 'none';
-script-src 'sha256-3B2mBchmV/rlghH3gduoXLf5rHWvFMPTfFKyTh+nPoA=';
+script-src 'sha256-bGKjQAizgU4VDTx9pfxzhsNpv8bHNHVrUUs6/h4/tEk=';
 style-src 'sha256-W+adrpk4AgFw85phCFghPqkK0vN5PCysVzyjCRaoJng='">
 <meta name="viewport" content="width=device-width, initial-scale=1">
 <meta name="referrer" content="no-referrer">

@@ -3,7 +3,7 @@
 //! `tests/pages/page_parts.py --write` writes them anew, here and in the policy, and `tests/process/pages.py` computes them again.
 
 /// The hash of `SCRIPT`, `ZOOMING` and `DRAWING`, joined in this order.
-pub const SCRIPT_HASH: &str = r#"sha256-3B2mBchmV/rlghH3gduoXLf5rHWvFMPTfFKyTh+nPoA="#;
+pub const SCRIPT_HASH: &str = r#"sha256-bGKjQAizgU4VDTx9pfxzhsNpv8bHNHVrUUs6/h4/tEk="#;
 
 /// The hash of `STYLE`.
 pub const STYLE_HASH: &str = r#"sha256-W+adrpk4AgFw85phCFghPqkK0vN5PCysVzyjCRaoJng="#;

@@ -151,7 +151,7 @@ function cut(text, length) {   // in its middle, and through no pair of surrogat
 }
 
 // The names of sessions, keys and values. In the history of a log a key x is the variable 2x, and a value v is 2v + 1; an odd variable is
-// the mark of a lost write, which has a session of its own after those of the clients.
+// the mark of a lost write or delete, which has a session of its own after those of the clients.
 function nameAll(run, names) {
   const [clients, keys, values] = names || [[], [], []], isLog = names !== null, cache = new Map();
   const noun = isLog ? 'key' : run.isMemory ? 'variable' : 'key', variable = key => run.keys.tokens[key];
@@ -177,7 +177,7 @@ function nameAll(run, names) {
   log.isNothing = value => isLog && value >= 0 && run.values.tokens[value] % 2 === 0;
   return log;
 }
-// The lost writes of a log that were read: the call in its client's session, and the session in which the write takes effect.
+// The lost writes and deletes of a log that were seen: the call in its client's session, and the session in which it takes effect.
 function lostWrites(run, isLog, clients, isMark) {
   const calls = new Map(), forks = new Map(), many = new Map(), numbers = new Map();
   for (let op = 0; isLog && op < run.count; op++) {
@@ -193,7 +193,8 @@ function lostWrites(run, isLog, clients, isMark) {
   const callOf = fork => calls.get(run.key[run.base[run.session[fork]]]), effectOf = call => forks.get(run.key[call]) + 1;
   const ownerName = (s, clientName) => {
     const call = callOf(run.base[s]), owner = call === undefined ? NONE : run.session[call];
-    return owner < 0 ? 'session ' + s : clientName(owner) + '\u2019s lost write' + (many.get(owner) > 1 ? ' ' + numbers.get(call) : '');
+    const noun = run.values.tokens[run.argument[run.base[s] + 1]] % 2 === 0 ? 'delete' : 'write';
+    return owner < 0 ? 'session ' + s : clientName(owner) + '\u2019s lost ' + noun + (many.get(owner) > 1 ? ' ' + numbers.get(call) : '');
   };
   return {callOf, effectOf, ownerName, lost: calls.size};
 }
@@ -208,12 +209,17 @@ function memoryWords(run, names, op) {
   if (value < 0) return ['reads ', key, tail];
   return names.isNothing(value) ? ['finds nothing at ', key] : ['reads ', name(names.value(value)), ' from ', key];
 }
-const writtenWords = (run, names, op) => [name(names.value(run.argument[op])), ' to ', name(names.key(run.key[op]))];
-function lostWords(run, names, op) {   // of a lost write: its call, what it waits for, and its effect
-  if (run.session[op] < names.clients) return ['calls a write of ', writtenWords(run, names, names.effectOf(op)), ' and gets no answer'];
+const lostNoun = (run, names, effect) => names.isNothing(run.argument[effect]) ? 'delete' : 'write';
+const writtenWords = (run, names, op) =>
+  [names.isNothing(run.argument[op]) ? '' : [name(names.value(run.argument[op])), ' to '], name(names.key(run.key[op]))];
+function callWords(run, names, effect) {
+  return ['calls a ', lostNoun(run, names, effect), ' of ', writtenWords(run, names, effect), ' and gets no answer'];
+}
+function lostWords(run, names, op) {   // of a lost write or delete: its call, what it waits for, and its effect
+  if (run.session[op] < names.clients) return callWords(run, names, names.effectOf(op));
   return isRead(run, op) ? ['comes after all that its client had called before it'] : ['takes effect: ', writtenWords(run, names, op)];
 }
-// The notes of a call, each with its line: those of its begin and of its end. The later operations of a lost write have none.
+// The notes of a call, each with its line: those of its begin and of its end. The later operations of a lost call have none.
 const notedLines = (run, op) => !run.notes.size || run.session[op] >= run.clients ? [] :
   [run.lines[op], run.ends[op]].filter(line => run.notes.has(line));
 function noteWords(run, op) {
@@ -224,9 +230,9 @@ function noteWords(run, op) {
 function operationLine(run, names, op) {   // with its client, in the words of `explain`
   const client = op => name(names.session(run.session[op])), session = run.session[op];
   if (session < names.clients) return [names.isLog ? [': ', client(op)] : '', ' ', operationWords(run, names, op), noteWords(run, op)];
-  const owner = client(names.callOf(op));
-  return isRead(run, op) ? [': the lost write of ', owner, ' comes after all that ', owner, ' had called before it'] :
-    [': the lost write of ', writtenWords(run, names, op), ' by ', owner, ' takes effect'];
+  const owner = client(names.callOf(op)), lost = ': the lost ' + lostNoun(run, names, run.base[session] + 1) + ' of ';
+  return isRead(run, op) ? [lost, owner, ' comes after all that ', owner, ' had called before it'] :
+    [lost, writtenWords(run, names, op), ' by ', owner, ' takes effect'];
 }
 const OTHER_WORDS = {w: ['writes ', 'a'], r: ['reads', ' ', 'v'], inc: ['increments'], get: ['gets ', 'v'], add: ['adds ', 'a'],
   rem: ['removes ', 'a'], push: ['pushes ', 'a'], pop: ['pops', ' ', 'v']};
@@ -253,7 +259,7 @@ function operationPieces(run, names, op) {
   if (lost && !isCall && isRead(run, op)) return {verb: 'comes after the call', key: '', value: ''};
   const value = run.isMemory ? valueOf(run, from) : run.argument[op] >= 0 ? run.argument[op] : run.answer[op], word = wordOf(run, op);
   const isDelete = run.isMemory && isWrite(run, from) && names.isNothing(value), isFound = word === 'has' && run.answer[op] >= 0;
-  const verb = isCall ? 'calls a write of' : isDelete ? 'deletes' : lost ? 'late write of' :
+  const verb = isCall ? 'calls a ' + (isDelete ? 'delete of' : 'write of') : isDelete ? 'deletes' : lost ? 'late write of' :
     isFound ? run.values.tokens[run.answer[op]] ? 'finds' : 'does not find' : DONE[word];
   return {verb, isRead: WORDS[word].includes('r'), isOpen: isCall || isUnanswered(run, op) && !lost,
     key: run.isKeyed ? names.key(run.key[from]) : '', value: isDelete || value < 0 ? '' : names.value(value)};
