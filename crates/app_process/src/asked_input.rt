@@ -124,7 +124,8 @@ pub(crate) fn status_of_asked<
     W: Sink + Drop + Send,
     E: Say + Drop + Send,
 >(given: &Given<'_, P>, reader: R, writer: W, errors: E, asked: &Asked) -> (W, E, u8)
-    ensures { EndsAsked (ReadingFails 0 R.called) (WritingFails W.called) (option_copied given.now.place.label) given.now.place.is_terminal given.now.terminals.output asked.now
+    ensures { EndsAsked (ReadingFails 0 R.called) (WritingFails W.called)
+        (option_copied given.now.place.label) given.now.place.is_terminal given.now.terminals.output asked.now
         (R.remaining reader) (W.contents writer) (W.contents result.0) (E.said errors) (E.said result.1) result.2 }
 {
     match view_of(given, asked) {
@@ -140,7 +141,8 @@ pub(crate) fn status_said<
     W: Sink + Drop + Send,
     E: Say,
 >(given: &Given<'_, P>, reader: R, writer: W, errors: E, asked: &Asked) -> (W, E, u8)
-    ensures { EndsAsked (ReadingFails 0 R.called) (WritingFails W.called) (option_copied given.now.place.label) given.now.place.is_terminal given.now.terminals.output asked.now
+    ensures { EndsAsked (ReadingFails 0 R.called) (WritingFails W.called)
+        (option_copied given.now.place.label) given.now.place.is_terminal given.now.terminals.output asked.now
         (R.remaining reader) (W.contents writer) (W.contents result.0) (E.said errors) (E.said result.1) result.2 }
 {
     let mut errors = errors;
@@ -156,7 +158,8 @@ fn status_by<
     W: Sink + Drop + Send,
     E: Say,
 >(given: &Given<'_, P>, reader: R, writer: W, errors: &mut E, asked: &Asked) -> (W, u8)
-    ensures { EndsAsked (ReadingFails 0 R.called) (WritingFails W.called) (option_copied given.now.place.label) given.now.place.is_terminal given.now.terminals.output asked.now
+    ensures { EndsAsked (ReadingFails 0 R.called) (WritingFails W.called)
+        (option_copied given.now.place.label) given.now.place.is_terminal given.now.terminals.output asked.now
         (R.remaining reader) (W.contents writer) (W.contents result.0) (E.said errors.old) (E.said errors.new) result.1 }
 {
     if asked.manner.to_file {
@@ -174,7 +177,8 @@ fn status_with_output<
     W: Sink + Drop + Send,
     E: Say,
 >(given: &Given<'_, P>, reader: R, writer: W, errors: &mut E, asked: &Asked) -> (W, u8)
-    ensures { GoesToOutput (ReadingFails 0 R.called) (WritingFails W.called) (option_copied given.now.place.label) given.now.place.is_terminal given.now.terminals.output asked.now
+    ensures { GoesToOutput (ReadingFails 0 R.called) (WritingFails W.called)
+        (option_copied given.now.place.label) given.now.place.is_terminal given.now.terminals.output asked.now
         (R.remaining reader) (W.contents writer) (W.contents result.0) (E.said errors.old) (E.said errors.new) result.1 }
 {
     let is_painted = is_painted(given, &asked.task, asked.manner.coloring);
@@ -202,7 +206,8 @@ fn answer_plainly<
     W: Sink + Drop + Send,
     E: Say,
 >(given: &Given<'_, P>, reader: R, writer: W, errors: &mut E, asked: &Asked) -> (W, u8)
-    ensures { EndsTask (Blames (ReadingFails 0 R.called) (WritingFails W.called)) (option_copied given.now.place.label) given.now.place.is_terminal asked.now.task asked.now.manner
+    ensures { EndsTask (Blames (ReadingFails 0 R.called) (WritingFails W.called))
+        (option_copied given.now.place.label) given.now.place.is_terminal asked.now.task asked.now.manner
         (R.remaining reader) (W.contents writer) (W.contents result.0) (E.said errors.old) (E.said errors.new) result.1 }
 {
     let writer = AnswerWriter::of(&given.place, writer);
@@ -224,7 +229,8 @@ fn answer_dressed<
     asked: &Asked,
     is_painted: bool,
 ) -> (W, u8)
-    ensures { EndsTask (Blames (ReadingFails 0 R.called) ⊤) (option_copied given.now.place.label) given.now.place.is_terminal asked.now.task asked.now.manner
+    ensures { EndsTask (Blames (ReadingFails 0 R.called) ⊤)
+        (option_copied given.now.place.label) given.now.place.is_terminal asked.now.task asked.now.manner
         (R.remaining reader) None None (E.said errors.old) (E.said errors.new) result.1 }
 {
     let dress = Dress {
@@ -243,7 +249,8 @@ fn status_with_file<
     R: Source + Drop + Send,
     E: Say,
 >(given: &Given<'_, P>, reader: R, errors: &mut E, asked: &Asked) -> u8
-    ensures { GoesToFile (ReadingFails 0 R.called) (option_copied given.now.place.label) given.now.place.is_terminal given.now.terminals.output asked.now
+    ensures { GoesToFile (ReadingFails 0 R.called)
+        (option_copied given.now.place.label) given.now.place.is_terminal given.now.terminals.output asked.now
         (R.remaining reader) None None (E.said errors.old) (E.said errors.new) result }
 {
     let (answer, status) = answer_in_memory(given, reader, errors, asked);
@@ -282,7 +289,8 @@ fn answer_in_memory<
     E: Say,
 >(given: &Given<'_, P>, reader: R, errors: &mut E, asked: &Asked) -> (Vec<u8>, u8)
     ensures { EndsTask (Blames (ReadingFails 0 R.called) ⊤) (option_copied given.now.place.label) given.now.place.is_terminal
-        asked.now.task asked.now.manner (R.remaining reader) (Some []) (Some result.0.items) (E.said errors.old) (E.said errors.new) result.1 }
+        asked.now.task asked.now.manner (R.remaining reader) (Some []) (Some result.0.items)
+        (E.said errors.old) (E.said errors.new) result.1 }
 {
     let answer = Vec::new(given.place.rt.alloc());
     answer_by(given, reader, answer, errors, asked)
@@ -309,7 +317,8 @@ fn answer_by<
     W: Sink + Drop + Send,
     E: Say,
 >(given: &Given<'_, P>, reader: R, writer: W, errors: &mut E, asked: &Asked) -> (W, u8)
-    ensures { EndsTask (Blames (ReadingFails 0 R.called) (WritingFails W.called)) (option_copied given.now.place.label) given.now.place.is_terminal asked.now.task asked.now.manner
+    ensures { EndsTask (Blames (ReadingFails 0 R.called) (WritingFails W.called))
+        (option_copied given.now.place.label) given.now.place.is_terminal asked.now.task asked.now.manner
         (R.remaining reader) (W.contents writer) (W.contents result.0) (E.said errors.old) (E.said errors.new) result.1 }
 {
     let reader = counted_at(&given.place, reader);
@@ -323,8 +332,10 @@ fn answer_from<
     W: Sink + Drop + Send,
     E: Say,
 >(given: &Given<'_, P>, reader: R, writer: W, errors: &mut E, asked: &Asked) -> (W, u8)
-    ensures { EndsTask (Blames (ReadingFails 0 R.called) (WritingFails W.called)) (option_copied given.now.place.label) given.now.place.is_terminal
-        asked.now.task asked.now.manner (R.remaining reader) (W.contents writer) (W.contents result.0) (E.said errors.old) (E.said errors.new) result.1 }
+    ensures { EndsTask (Blames (ReadingFails 0 R.called) (WritingFails W.called))
+        (option_copied given.now.place.label) given.now.place.is_terminal
+        asked.now.task asked.now.manner (R.remaining reader) (W.contents writer) (W.contents result.0)
+        (E.said errors.old) (E.said errors.new) result.1 }
 {
     let mut writer = writer;
     let place = &given.place;
@@ -361,7 +372,8 @@ fn answer_input<
     detail: Detail,
     manner: &Manner,
 ) -> (W, u8)
-    ensures { EndsInput (Blames (ReadingFails 0 R.called) (WritingFails W.called)) (option_copied place.now.label) place.now.is_terminal order.now detail manner.now
+    ensures { EndsInput (Blames (ReadingFails 0 R.called) (WritingFails W.called))
+        (option_copied place.now.label) place.now.is_terminal order.now detail manner.now
         (R.remaining reader) (W.contents writer) (W.contents result.0) (E.said errors.old) (E.said errors.new) result.1 }
 {
     if let Order::JudgeLines(judging) = order {

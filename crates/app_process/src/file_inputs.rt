@@ -201,7 +201,8 @@ fn status_on_file<
     E: Say + Drop + Send,
 >(all: &Inputs<'_, P, F>, choices: &Choices, name: &str, writer: W, errors: E) -> (W, E, u8)
     requires { AreChoices (map string_bytes all.now.words.now) choices.now }
-    ensures { EndsFile (F.opens all.now.files.now) (F.lacks all.now.files.now) (ReadingFails most_ahead F.File.called) (WritingFails W.called)
+    ensures { EndsFile (F.opens all.now.files.now) (F.lacks all.now.files.now) (ReadingFails most_ahead F.File.called)
+        (WritingFails W.called)
         (map string_bytes all.now.words.now) all.now.terminals name.now (label_of all.now.is_many name.now)
         (W.contents writer) (W.contents result.0) (E.said errors) (E.said result.1) result.2 }
 {

@@ -1,8 +1,8 @@
 //! The process of the program `causal_judge`: its words, its files and streams, and its exit status.
 //!
 //! It gives [`status_of_process`], which does what the words order, over the engine for inputs and the engine for logs of events; and
-//! [`status_of_words`], which does the same with any files ([`Open`]), any reader, writer and place for what is said beside ([`Say`]), and says
-//! what comes of it.
+//! [`status_of_words`], which does the same with any files ([`Open`]), any reader, writer and place for what is said beside
+//! ([`Say`]), and says what comes of it.
 #![tactic(auto)]
 
 mod answer_writer;

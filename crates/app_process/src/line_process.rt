@@ -28,7 +28,8 @@ pub(crate) fn judge_lines_of_process<
     W: Sink + Drop + Send,
     E: Say,
 >(place: &Place<'_, P>, reader: R, writer: W, errors: &mut E, judging: LineJudging) -> (W, u8)
-    ensures { EndsLines (Blames (ReadingFails 0 R.called) (WritingFails W.called)) (option_copied place.now.label) judging (R.remaining reader) (W.contents writer) (W.contents result.0)
+    ensures { EndsLines (Blames (ReadingFails 0 R.called) (WritingFails W.called))
+        (option_copied place.now.label) judging (R.remaining reader) (W.contents writer) (W.contents result.0)
         (E.said errors.old) (E.said errors.new) result.1 }
 {
     let reader = Noticing::of(judging.blank, reader);

@@ -49,7 +49,8 @@ pub(crate) fn status_of_log<
     manner: &Manner,
     rest: Rest,
 ) -> u8
-    ensures { EndsLog (Blames (ReadingFails 0 R.called) (WritingFails W.called)) (option_copied place.now.label) order manner.now (R.remaining reader) (W.contents writer.old) (W.contents writer.new)
+    ensures { EndsLog (Blames (ReadingFails 0 R.called) (WritingFails W.called))
+        (option_copied place.now.label) order manner.now (R.remaining reader) (W.contents writer.old) (W.contents writer.new)
         (E.said errors.old) (E.said errors.new) result }
 {
     let mut source = Keeping::of(place.rt.alloc(), reader, wants_counts(manner));

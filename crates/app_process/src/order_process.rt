@@ -34,7 +34,8 @@ pub(crate) fn status_of_order<
     detail: Detail,
     manner: &Manner,
 ) -> u8
-    ensures { EndsOrder (Blames (ReadingFails 0 R.called) (WritingFails W.called)) (option_copied place.now.label) place.now.is_terminal order.now detail manner.now
+    ensures { EndsOrder (Blames (ReadingFails 0 R.called) (WritingFails W.called))
+        (option_copied place.now.label) place.now.is_terminal order.now detail manner.now
         (R.remaining reader) (W.contents writer.old) (W.contents writer.new) (E.said errors.old) (E.said errors.new) result }
 {
     let mut reader = reader;

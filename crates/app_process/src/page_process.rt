@@ -24,7 +24,8 @@ pub(crate) fn write_page_of_process<
     W: Sink,
     E: Say,
 >(place: &Place<'_, P>, reader: R, writer: &mut W, errors: &mut E, page: Page, detail: Detail) -> u8
-    ensures { EndsPage (Blames (ReadingFails 0 R.called) (WritingFails W.called)) (option_copied place.now.label) place.now.is_terminal page detail (R.remaining reader)
+    ensures { EndsPage (Blames (ReadingFails 0 R.called) (WritingFails W.called))
+        (option_copied place.now.label) place.now.is_terminal page detail (R.remaining reader)
         (W.contents writer.old) (W.contents writer.new) (E.said errors.old) (E.said errors.new) result }
 {
     match page.of {
@@ -51,7 +52,8 @@ fn write_page_of_history<
     length: Length,
     detail: Detail,
 ) -> u8
-    ensures { EndsPageOf (Blames (ReadingFails 0 R.called) (WritingFails W.called)) (option_copied place.now.label) place.now.is_terminal (PageOf.Input length) most detail (R.remaining reader)
+    ensures { EndsPageOf (Blames (ReadingFails 0 R.called) (WritingFails W.called))
+        (option_copied place.now.label) place.now.is_terminal (PageOf.Input length) most detail (R.remaining reader)
         (W.contents writer.old) (W.contents writer.new) (E.said errors.old) (E.said errors.new) result }
 {
     let mut reader = reader;
@@ -73,7 +75,8 @@ fn write_page_of_log<
     W: Sink,
     E: Say,
 >(place: &Place<'_, P>, reader: R, writer: &mut W, errors: &mut E, most: u32) -> u8
-    ensures { EndsLogPage (Blames (ReadingFails 0 R.called) (WritingFails W.called)) (option_copied place.now.label) place.now.is_terminal most (R.remaining reader)
+    ensures { EndsLogPage (Blames (ReadingFails 0 R.called) (WritingFails W.called))
+        (option_copied place.now.label) place.now.is_terminal most (R.remaining reader)
         (W.contents writer.old) (W.contents writer.new) (E.said errors.old) (E.said errors.new) result }
 {
     let mut source = reader;

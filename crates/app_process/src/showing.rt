@@ -56,7 +56,8 @@ pub(crate) fn status_shown<
     asked: &Asked,
 ) -> (W, E, u8)
     ensures { EndsAsked (ReadingFails 0 R.called) (WritingFails W.called) (option_copied given.now.place.label) given.now.place.is_terminal
-        given.now.terminals.output asked.now (R.remaining reader) (W.contents writer) (W.contents result.0) (E.said errors) (E.said result.1) result.2 }
+        given.now.terminals.output asked.now
+        (R.remaining reader) (W.contents writer) (W.contents result.0) (E.said errors) (E.said result.1) result.2 }
 {
     let rt = given.place.rt;
     let progress = Progress::of(rt, view);
@@ -66,8 +67,10 @@ pub(crate) fn status_shown<
         rt,
         || progress.watch(rt),
         || -> (W, E, u8)
-            ensures { EndsAsked (ReadingFails 0 R.called) (WritingFails W.called) (option_copied seen.entry.place.label) seen.entry.place.is_terminal
-                seen.entry.terminals.output asked.entry.now (R.remaining reader) (W.contents writer) (W.contents result.0) (E.said errors) (E.said result.1) result.2 }
+            ensures { EndsAsked (ReadingFails 0 R.called) (WritingFails W.called)
+                (option_copied seen.entry.place.label) seen.entry.place.is_terminal
+                seen.entry.terminals.output asked.entry.now
+                (R.remaining reader) (W.contents writer) (W.contents result.0) (E.said errors) (E.said result.1) result.2 }
         {
             let ended = status_said(&seen, reader, writer, errors, asked);
             progress.end(rt);

@@ -23,7 +23,8 @@ pub(crate) fn report_usage<P: Files + AllocGlobal + Eprint + Wait, W: Sink, E: S
     errors: &mut E,
     usage: Usage,
 ) -> u8
-    ensures { EndsUsage (WritingFails W.called) usage (W.contents writer.old) (W.contents writer.new) (E.said errors.old) (E.said errors.new) result }
+    ensures { EndsUsage (WritingFails W.called) usage (W.contents writer.old) (W.contents writer.new)
+        (E.said errors.old) (E.said errors.new) result }
 {
     match usage {
         Usage::Help(text) => show_help(rt, writer, errors, text),
@@ -43,7 +44,8 @@ fn show_help<P: Files + AllocGlobal + Eprint + Wait, W: Sink, E: Say>(
     errors: &mut E,
     text: String,
 ) -> u8
-    ensures { ShowsHelp (WritingFails W.called) (string_bytes text) (W.contents writer.old) (W.contents writer.new) (E.said errors.old) (E.said errors.new) result }
+    ensures { ShowsHelp (WritingFails W.called) (string_bytes text) (W.contents writer.old) (W.contents writer.new)
+        (E.said errors.old) (E.said errors.new) result }
 {
     let text = with_gate(rt, text);
     match write_whole(writer, text.as_bytes()) {
