@@ -35,7 +35,8 @@ use Rattle.app_process.specs.declared.terminals.Terminals.{Terminals}
 use Rattle.app_process.specs.Endings.{EndsPageOf, EndsTask, TellsOfPage}
 use Rattle.app_process.specs.Failing.{Refuses, Tells, refusal_for}
 use Rattle.app_process.specs.Process.{EndEach, EndsAsked, EndsFile, EndsFiles, EndsMisuse, EndsRun, EndsWords, are_several}
-use Rattle.app_process.specs.Saying.{SaysSome}
+use Rattle.app_process.specs.Saying.{Known, SaysSome}
+use Rattle.json_lines.specs.declared.fault.Fault.{Fault as StreamFault}
 use Rattle.app_process.specs.Statuses.{has_few, rank, status_after, worse}
 use Rattle.app_process.specs.Usages.{EndsUsage}
 
@@ -111,33 +112,33 @@ module _ (label : Option (List ℕ)) (at : Bool) where
   few_page_error page_failures.TooLong a b status told =
       few_refuses label at Reason (refusal_for forms.History failures.TooLong) failures.TooLong a b status told
 
-  few_page : (of : PageOf) (most : ℕ) (detail : Detail) (reader a b c d : Option (List ℕ)) (status : ℕ)
-      → EndsPageOf label at of most detail reader a b c d status → status ≤ 6
-  few_page (pages.Input long) most detail reader a b c d status (inl shown) = by shown.is_status (lit≤ tt)
-  few_page (pages.Input long) most detail reader a b c d status (inr refused) = few_refuses label at detail _ refused.error c d status refused.refuses
-  few_page pages.Log most detail reader a b c d status (inl shown) = by shown.is_status (lit≤ tt)
-  few_page pages.Log most detail reader a b c d status (inr refused) = few_page_error refused.error c d status refused.tells
+  few_page : (may : StreamFault → Type 0) (of : PageOf) (most : ℕ) (detail : Detail) (reader a b c d : Option (List ℕ)) (status : ℕ)
+      → EndsPageOf may label at of most detail reader a b c d status → status ≤ 6
+  few_page may (pages.Input long) most detail reader a b c d status (inl shown) = by shown.is_status (lit≤ tt)
+  few_page may (pages.Input long) most detail reader a b c d status (inr refused) = few_refuses label at detail _ refused.error c d status refused.refuses
+  few_page may pages.Log most detail reader a b c d status (inl shown) = by shown.is_status (lit≤ tt)
+  few_page may pages.Log most detail reader a b c d status (inr refused) = few_page_error refused.error c d status refused.tells
 
-  few_task : (task : Task) (manner : Manner) (reader a b c d : Option (List ℕ)) (status : ℕ)
-      → EndsTask label at task manner reader a b c d status → status ≤ 6
-  few_task (OfInput order detail) manner reader a b c d status (inl (whole, inl answers)) =
+  few_task : (may : StreamFault → Type 0) (task : Task) (manner : Manner) (reader a b c d : Option (List ℕ)) (status : ℕ)
+      → EndsTask may label at task manner reader a b c d status → status ≤ 6
+  few_task may (OfInput order detail) manner reader a b c d status (inl (whole, inl answers)) =
       by answers.is_status (few_after manner.least_reads answers.reads _ (few_outcome answers.outcome))
-  few_task (OfInput order detail) manner reader a b c d status (inl (whole, inr refused)) = few_refuses label at detail _ refused.error c d status refused.refuses
-  few_task (OfInput order detail) manner reader a b c d status (inr (judging, is_order, inl answers)) = by answers.is_status (few_outcome answers.outcome)
-  few_task (OfInput order detail) manner reader a b c d status (inr (judging, is_order, inr failed)) = few_tells label failed.error c d status failed.tells
-  few_task (OfLog order) manner reader a b c d status (inl answers) =
+  few_task may (OfInput order detail) manner reader a b c d status (inl (whole, inr refused)) = few_refuses label at detail _ refused.error c d status refused.refuses
+  few_task may (OfInput order detail) manner reader a b c d status (inr (judging, is_order, inl answers)) = by answers.is_status (few_outcome answers.outcome)
+  few_task may (OfInput order detail) manner reader a b c d status (inr (judging, is_order, inr failed)) = few_tells label failed.error c d status failed.tells
+  few_task may (OfLog order) manner reader a b c d status (inl answers) =
       by answers.is_status (few_after manner.least_reads answers.reads _ (few_outcome answers.followed.outcome))
-  few_task (OfLog order) manner reader a b c d status (inr refused) = few_page_error (page_failures.Log refused.error) c d status refused.tells
-  few_task (OfPage page detail) manner reader a b c d status ends = few_page page.of page.most detail reader a b c d status ends
+  few_task may (OfLog order) manner reader a b c d status (inr refused) = few_page_error (page_failures.Log refused.error) c d status refused.tells
+  few_task may (OfPage page detail) manner reader a b c d status ends = few_page _ page.of page.most detail reader a b c d status ends
 
-few_usage : (usage : Usage) (a b c d : Option (List ℕ)) (status : ℕ) → EndsUsage usage a b c d status → status ≤ 6
-few_usage (Help text) a b c d status (inl (more, gate, written, quiet, is_status)) = by is_status (lit≤ tt)
-few_usage (Help text) a b c d status (inr told) = few_tells None failures.WriteFault c d status told
-few_usage (Fault text) a b c d status (same, said, is_status) = by is_status (lit≤ tt)
-few_usage Memory a b c d status (same, told) = few_tells None failures.Memory c d status told
+few_usage : (writing : Type 0) (usage : Usage) (a b c d : Option (List ℕ)) (status : ℕ) → EndsUsage writing usage a b c d status → status ≤ 6
+few_usage writing (Help text) a b c d status (inl (more, gate, written, quiet, is_status)) = by is_status (lit≤ tt)
+few_usage writing (Help text) a b c d status (inr (blamed, told)) = few_tells None failures.WriteFault c d status told
+few_usage writing (Fault text) a b c d status (same, said, is_status) = by is_status (lit≤ tt)
+few_usage writing Memory a b c d status (same, told) = few_tells None failures.Memory c d status told
 
-few_misuse : (sight : Sight) (words : List Text) (a b c d : Option (List ℕ)) (status : ℕ) → EndsMisuse sight words a b c d status → status ≤ 6
-few_misuse sight words a b c d status (usage, none, is_usage, ends) = few_usage usage a b c d status ends
+few_misuse : (writing : Type 0) (sight : Sight) (words : List Text) (a b c d : Option (List ℕ)) (status : ℕ) → EndsMisuse writing sight words a b c d status → status ≤ 6
+few_misuse writing sight words a b c d status (usage, none, is_usage, ends) = few_usage _ usage a b c d status ends
 
 zero_or_other : (n : ℕ) → (n ≡ 0) ⊎ (n ≢ 0)
 zero_or_other zero = inl refl
@@ -152,52 +153,54 @@ few_saved : (answered status : ℕ) (a b : Option (List ℕ)) → answered ≤ 6
 few_saved answered status a b few unsaved saved (inl none) = few_kept status a b (saved none)
 few_saved answered status a b few unsaved saved (inr other) = by (unsaved other).0 few
 
-few_asked : (label : Option (List ℕ)) (at shown : Bool) (asked : Asked) (reader a b c d : Option (List ℕ)) (status : ℕ)
-    → EndsAsked label at shown asked reader a b c d status → status ≤ 6
-few_asked label at shown asked reader a b c d status (inl (to, (painted, is_painted, ends))) =
-    few_task label at asked.task asked.manner reader _ _ c d status ends
-few_asked label at shown asked reader a b c d status (inr (to, file)) =
-    few_saved file.answered status file.said d (few_task label at asked.task asked.manner reader (Some []) file.answer c file.said file.answered file.ends)
+few_asked : (reading writing : Type 0) (label : Option (List ℕ)) (at shown : Bool) (asked : Asked) (reader a b c d : Option (List ℕ)) (status : ℕ)
+    → EndsAsked reading writing label at shown asked reader a b c d status → status ≤ 6
+few_asked reading writing label at shown asked reader a b c d status (inl (to, (painted, is_painted, ends))) =
+    few_task label at _ asked.task asked.manner reader _ _ c d status ends
+few_asked reading writing label at shown asked reader a b c d status (inr (to, file)) =
+    few_saved file.answered status file.said d (few_task label at _ asked.task asked.manner reader (Some []) file.answer c file.said file.answered file.ends)
     file.unsaved file.saved (zero_or_other file.answered)
 
 -- of words that name no file
-few_words : (words : List Text) (terminals : Terminals) (reader a b c d : Option (List ℕ)) (status : ℕ)
-    → EndsWords words terminals reader a b c d status → status ≤ 6
-few_words words terminals reader a b c d status (inl (asked, is_line, ends)) = few_asked None terminals.error terminals.output asked reader a b c d status ends
-few_words words terminals reader a b c d status (inr misuse) = few_misuse Unseen words a b c d status misuse
+few_words : (reading writing : Type 0) (words : List Text) (terminals : Terminals) (reader a b c d : Option (List ℕ)) (status : ℕ)
+    → EndsWords reading writing words terminals reader a b c d status → status ≤ 6
+few_words reading writing words terminals reader a b c d status (inl (asked, is_line, ends)) = few_asked _ _ None terminals.error terminals.output asked reader a b c d status ends
+few_words reading writing words terminals reader a b c d status (inr misuse) = few_misuse _ Unseen words a b c d status misuse
 
-few_file : (words : List Text) (terminals : Terminals) (label a b c d : Option (List ℕ)) (status : ℕ)
-    → EndsFile words terminals label a b c d status → status ≤ 6
-few_file words terminals label a b c d status (reader, inl (sight, asked, known, looks, is_line, is_known, ends)) =
-    few_asked label terminals.error terminals.output asked known a b c d status ends
-few_file words terminals label a b c d status (reader, inr (inl (sight, looks, misuse))) = few_misuse sight words a b c d status misuse
-few_file words terminals label a b c d status (reader, inr (inr (is_status, same, said))) = by is_status (lit≤ tt)
+few_file : (Opens : Text → Known → Type 0) (Lacks : Text → Type 0) (reading writing : Type 0) (words : List Text) (terminals : Terminals) (name : Text)
+    (label a b c d : Option (List ℕ)) (status : ℕ) → EndsFile Opens Lacks reading writing words terminals name label a b c d status → status ≤ 6
+few_file Opens Lacks reading writing words terminals name label a b c d status (inl (reader, opens, inl (sight, asked, known, looks, is_line, is_known, ends))) =
+    few_asked _ _ label terminals.error terminals.output asked known a b c d status ends
+few_file Opens Lacks reading writing words terminals name label a b c d status (inl (reader, opens, inr (inl (sight, looks, misuse)))) = few_misuse _ sight words a b c d status misuse
+few_file Opens Lacks reading writing words terminals name label a b c d status (inl (reader, opens, inr (inr (inl (blamed, is_status, same, said))))) = by is_status (lit≤ tt)
+few_file Opens Lacks reading writing words terminals name label a b c d status (inl (reader, opens, inr (inr (inr (same, (is_status, said)))))) = by is_status (lit≤ tt)
+few_file Opens Lacks reading writing words terminals name label a b c d status (inr (lacks, is_status, same, said)) = by is_status (lit≤ tt)
 
 few_worse : (one other : ℕ) → one ≤ 6 → other ≤ 6 → worse one other ≤ 6
 few_worse one other few more = few_cond (nat_lt (rank one) (rank other)) other one more few
 
-few_each : (words : List Text) (terminals : Terminals) (several : Bool) (names : List Text) (a b c d : Option (List ℕ)) (worst status : ℕ)
-    → worst ≤ 6 → EndEach words terminals several names a b c d worst status → status ≤ 6
+few_each : (Opens : Text → Known → Type 0) (Lacks : Text → Type 0) (reading writing : Type 0) (words : List Text) (terminals : Terminals) (several : Bool) (names : List Text) (a b c d : Option (List ℕ)) (worst status : ℕ)
+    → worst ≤ 6 → EndEach Opens Lacks reading writing words terminals several names a b c d worst status → status ≤ 6
 unfolding EndEach
-few_each words terminals several [] a b c d worst status few (same, same_said, is_status) = by is_status few
-few_each words terminals several (name ∷ names) a b c d worst status few (between, said, one, ends, further) =
-    few_each words terminals several names between b said d (worse worst one) status
-    (few_worse worst one few (few_file words terminals _ a between c said one ends)) further
+few_each Opens Lacks reading writing words terminals several [] a b c d worst status few (same, same_said, is_status) = by is_status few
+few_each Opens Lacks reading writing words terminals several (name ∷ names) a b c d worst status few (between, said, one, ends, further) =
+    few_each Opens Lacks reading writing words terminals several names between b said d (worse worst one) status
+    (few_worse worst one few (few_file Opens Lacks reading writing words terminals name _ a between c said one ends)) further
 
 -- of words that name files
-few_files : (words : List Text) (terminals : Terminals) (further : List Text) (a b c d : Option (List ℕ)) (status : ℕ)
-    → EndsFiles words terminals further a b c d status → status ≤ 6
-few_files words terminals further a b c d status (inl (asks, (files, are_files, each))) =
-    few_each words terminals (are_several files) files a b c d 0 status (lit≤ tt) each
-few_files words terminals further a b c d status (inr (inl (none, misuse))) = few_misuse Unseen words a b c d status misuse
-few_files words terminals further a b c d status (inr (inr (sight, asked, is_line, of_one, several, is_status, same, said))) = by is_status (lit≤ tt)
+few_files : (Opens : Text → Known → Type 0) (Lacks : Text → Type 0) (reading writing : Type 0) (words : List Text) (terminals : Terminals) (further : List Text) (a b c d : Option (List ℕ)) (status : ℕ)
+    → EndsFiles Opens Lacks reading writing words terminals further a b c d status → status ≤ 6
+few_files Opens Lacks reading writing words terminals further a b c d status (inl (asks, (files, are_files, each))) =
+    few_each Opens Lacks reading writing words terminals (are_several files) files a b c d 0 status (lit≤ tt) each
+few_files Opens Lacks reading writing words terminals further a b c d status (inr (inl (none, misuse))) = few_misuse _ Unseen words a b c d status misuse
+few_files Opens Lacks reading writing words terminals further a b c d status (inr (inr (sight, asked, is_line, of_one, several, is_status, same, said))) = by is_status (lit≤ tt)
 
 -- of any words
-pub few_run : (words : List Text) (terminals : Terminals) (reader a b c d : Option (List ℕ)) (status : ℕ)
-    → EndsRun words terminals reader a b c d status → status ≤ 6
-few_run words terminals reader a b c d status (inl (none, ends)) = few_words words terminals reader a b c d status ends
-few_run words terminals reader a b c d status (inr (some, further, after, ends)) = few_files words terminals further a b c d status ends
+pub few_run : (Opens : Text → Known → Type 0) (Lacks : Text → Type 0) (file_reading reading writing : Type 0) (words : List Text) (terminals : Terminals) (reader a b c d : Option (List ℕ)) (status : ℕ)
+    → EndsRun Opens Lacks file_reading reading writing words terminals reader a b c d status → status ≤ 6
+few_run Opens Lacks file_reading reading writing words terminals reader a b c d status (inl (none, ends)) = few_words reading writing words terminals reader a b c d status ends
+few_run Opens Lacks file_reading reading writing words terminals reader a b c d status (inr (some, further, after, ends)) = few_files Opens Lacks file_reading writing words terminals further a b c d status ends
 
 -- of words that ask for nothing
-pub few_of_usage : (usage : Usage) (a b c d : Option (List ℕ)) (status : ℕ) → EndsUsage usage a b c d status → status ≤ 6
-few_of_usage = few_usage
+pub few_of_usage : (writing : Type 0) (usage : Usage) (a b c d : Option (List ℕ)) (status : ℕ) → EndsUsage writing usage a b c d status → status ≤ 6
+few_of_usage writing = few_usage writing

@@ -1,4 +1,6 @@
 pub mod SaidLaws
+pub mod FaultLaws
+pub mod AheadLaws
 pub mod FailLaws
 pub mod NoticingLaws
 pub mod EndLaws

@@ -6,12 +6,13 @@ use Rattle.std.proofs.lemmas.List.Elements.{All-append, All-cons, All-nil}
 use Rattle.std.proofs.lemmas.List.Sums.{fold-append}
 use Rattle.app_orders.specs.declared.line_judging.BlankLines.{BlankLines}
 use Rattle.json_lines.specs.Lines.{lines_of}
-use Rattle.json_lines.specs.ReadCalls.{CallOutcome, EndsBy, GoOn, IsEnd, ReadsOn}
+use Rattle.json_lines.specs.ReadCalls.{CallOutcome, Calls, EndsBy, GoOn, IsEnd, ReadsOn}
 use Rattle.json_lines.specs.Steps.{IsFree}
 use Rattle.json_lines.proofs.LineLaws.{first_line, last_line, lines_of-nil}
 use Rattle.app_process.specs.declared.noticing.LineSoFar.{LineSoFar}
 use Rattle.app_process.specs.declared.noticing.Noticed.{Noticed}
 use Rattle.app_process.specs.LineRemarks.{SaysLineRemarks, blank_remark, breaks_off, broken_remark, first_such, is_refused_blank, line_remarks, line_seen, no_bytes, one_more, seen}
+use Rattle.app_process.specs.Faults.{ReadingFails}
 use Rattle.app_process.specs.Saying.{Known, SaysSome, said_lines}
 use Rattle.app_process.specs.Steps.Noticing.{HasNoticed, Notices, SaysNoticed, all_ended, line_ended, nothing, noticed_byte, or_this, remarks_in}
 use Rattle.app_process.proofs.SaidLaws as laws
@@ -152,9 +153,18 @@ notices_both (Some xs) (Some ys) (Some zs) one two three (x, first, is_two) (y, 
 )
 
 -- a reader that notices what each of its calls gives has noticed all of its bytes at its end
-module _ {S : Type 0} (remaining : S → Known) (noticed : S → Noticed) where
+module _ {S : Type 0} (inner : S → CallOutcome → S → Type 0) (remaining : S → Known) (noticed : S → Noticed) where
   abbrev Called : S → CallOutcome → S → Type 0
-  Called old outcome new = Notices (remaining old) (remaining new) (noticed old) (noticed new)
+  Called old outcome new = Notices (remaining old) (remaining new) (noticed old) (noticed new) × inner old outcome new
+
+  not_noticing_calls : (n : ℕ) (old new : S) → Calls Called n old new → Calls inner n old new
+  unfolding Calls
+  not_noticing_calls zero old new same = same
+  not_noticing_calls (suc n) old new (between, first, (outcome, call)) = (between, not_noticing_calls n old between first, (outcome, call.1))
+
+  pub not_noticing : (ahead : ℕ) → ReadingFails ahead Called → ReadingFails ahead inner
+  not_noticing ahead (inl (old, new, outcome, fails, call)) = inl (old, new, outcome, fails, call.1)
+  not_noticing ahead (inr (old, new, calls, many, all)) = inr (old, new, calls, many, not_noticing_calls calls old new all)
 
   noticed_on : (n : ℕ) (old new : S) → GoOn Called n old new → Notices (remaining old) (remaining new) (noticed old) (noticed new)
   unfolding GoOn
@@ -162,14 +172,14 @@ module _ {S : Type 0} (remaining : S → Known) (noticed : S → Noticed) where
       subst (λ (s : S). Notices (remaining old) (remaining s) (noticed old) (noticed s)) same (notices_none (remaining old) (noticed old))
   noticed_on (suc n) old new (between, outcome, first, goes, last) =
       notices_both (remaining old) (remaining between) (remaining new) (noticed old) (noticed between) (noticed new)
-      (noticed_on n old between first) last
+      (noticed_on n old between first) last.0
 
   pub noticed_to_end : (most : ℕ) (old new : S) (bytes : List ℕ) → ReadsOn Called (EndsBy Called most IsEnd) old new → IsAtEnd (remaining new)
       → remaining old ≡ Some bytes → noticed new ≡ fold noticed_byte (noticed old) bytes
   noticed_to_end most old new bytes (n, between, first, (m, last, outcome, few, second, is_end, call)) at_end is_known =
       let to_last = notices_both (remaining old) (remaining between) (remaining last) (noticed old) (noticed between) (noticed last)
       (noticed_on n old between first) (noticed_on m between last second) in
-      let whole = notices_both (remaining old) (remaining last) (remaining new) (noticed old) (noticed last) (noticed new) to_last call in
+      let whole = notices_both (remaining old) (remaining last) (remaining new) (noticed old) (noticed last) (noticed new) to_last call.0 in
       let P : Known → Type 0 = λ k. Notices k (remaining new) (noticed old) (noticed new) in
       all_given (remaining new) bytes (noticed old) (noticed new) (subst P is_known whole) at_end
     where

@@ -34,6 +34,8 @@ use Rattle.app_logs.specs.LogAnswers.{FollowsLog, IsLogError, RefusesLate, Write
 use Rattle.app_pages.specs.declared.failure.PageError.{PageError}
 use Rattle.app_pages.specs.declared.failure.PageError.TheVariants as page_failures
 use Rattle.app_pages.specs.Writing.{FailsToWrite, IsPageOfInput, IsPageOfLog, WritesPage, listing_order}
+use Rattle.json_lines.specs.declared.fault.Fault.{Fault}
+use Rattle.app_process.specs.Faults.{MayFail, MayFailOnLog, MayFailOnPage}
 use Rattle.app_process.specs.Failing.{LacksMemory, Refuses, Tells, form_for, history_form, refusal_for}
 use Rattle.app_process.specs.LineRemarks.{SaysLineRemarks}
 use Rattle.app_process.specs.Saying.{Known, said_lines}
@@ -56,16 +58,18 @@ module _ (label : Option (List ℕ)) (at_terminal : Bool) where
     pub is_status : status ≡ status_after manner.least_reads reads (status_of_outcome outcome)
     pub said : SaysCounts (wants_counts manner) said_before said_after
 
+module _ (may : Fault → Type 0) (label : Option (List ℕ)) (at_terminal : Bool) where
   -- it failed: nothing was written, but where the writer failed, and why is said
   pub record RefusesOrder (order : Order) (detail : Detail) (reader before after said_before said_after : Known) (status : ℕ) : Type 0 where
     pub error : RunError
     pub fails : Fails order reader error
     pub unwritten : error ≢ failures.WriteFault → after ≡ before
+    pub blamed : MayFail may error
     pub refuses : Refuses label at_terminal detail (refusal_for (form_for order) error) error said_before said_after status
 
   abbrev pub EndsOrder : Order → Detail → Manner → Known → Known → Known → Known → Known → ℕ → Type 0
   EndsOrder order detail manner reader before after said_before said_after status =
-      AnswersOrder order manner reader before after said_before said_after status
+      AnswersOrder label at_terminal order manner reader before after said_before said_after status
       ⊎ RefusesOrder order detail reader before after said_before said_after status
 
 module _ (label : Option (List ℕ)) where
@@ -76,16 +80,18 @@ module _ (label : Option (List ℕ)) where
     pub is_status : status ≡ status_of_outcome outcome
     pub said : SaysLineRemarks label judging.blank reader said_before said_after
 
+module _ (may : Fault → Type 0) (label : Option (List ℕ)) where
   -- it failed: some first lines were answered, but where the writer failed, and why is said
   pub record FailsLines (judging : LineJudging) (reader before after said_before said_after : Known) (status : ℕ) : Type 0 where
     pub error : RunError
     pub is_fault : (error ≡ failures.Memory) ⊎ ((error ≡ failures.ReadFault) ⊎ (error ≡ failures.WriteFault))
     pub first : error ≢ failures.WriteFault → FirstAreAnswered (IsLineAnswer judging) reader before after
+    pub blamed : MayFail may error
     pub tells : Tells label error said_before said_after status
 
   abbrev pub EndsLines : LineJudging → Known → Known → Known → Known → Known → ℕ → Type 0
   EndsLines judging reader before after said_before said_after status =
-      AnswersLines judging reader before after said_before said_after status ⊎ FailsLines judging reader before after said_before said_after status
+      AnswersLines label judging reader before after said_before said_after status ⊎ FailsLines judging reader before after said_before said_after status
 
 -- where the last cut of a log is not as expected: how to see why
 abbrev pub explained_cut : List ℕ
@@ -136,6 +142,14 @@ module _ (label : Option (List ℕ)) where
   TellsOfLog error before after status =
       ((told : List ℕ) × (status ≡ status_for error) × Appends before after (said_lines label (lines_for error told))) ⊎ LacksMemory label before after status
 
+  -- the page of a log was written
+  pub record ShowsLog (most : ℕ) (reader before after said_before said_after : Known) (status : ℕ) : Type 0 where
+    pub torn : Bool
+    pub writes : WritesPage MAX_INPUT_BYTES (IsPageOfLog most torn) reader before after
+    pub is_status : status ≡ 0
+    pub said : Appends said_before said_after (torn_remark torn)
+
+module _ (may : Fault → Type 0) (label : Option (List ℕ)) where
   -- it failed: nothing was written, or with a number of events some first cuts, each as expected; but where the writer failed
   pub record RefusesLog (order : LogOrder) (reader before after said_before said_after : Known) (status : ℕ) : Type 0 where
     pub error : LogError
@@ -144,18 +158,12 @@ module _ (label : Option (List ℕ)) where
     pub first_cuts : (every : ℕ) → every_in order ≡ Some every → error ≢ log_failures.WriteFault
         → WritesFirstCuts every (expected_in order) reader before after
     pub refused : (every : ℕ) → every_in order ≡ Some every → RefusesLate every (expected_in order) reader before after error
-    pub tells : TellsOfLog error said_before said_after status
+    pub blamed : MayFailOnLog may error
+    pub tells : TellsOfLog label error said_before said_after status
 
   abbrev pub EndsLog : LogOrder → Manner → Known → Known → Known → Known → Known → ℕ → Type 0
   EndsLog order manner reader before after said_before said_after status =
-      AnswersLogOrder order manner reader before after said_before said_after status ⊎ RefusesLog order reader before after said_before said_after status
-
-  -- the page of a log was written
-  pub record ShowsLog (most : ℕ) (reader before after said_before said_after : Known) (status : ℕ) : Type 0 where
-    pub torn : Bool
-    pub writes : WritesPage MAX_INPUT_BYTES (IsPageOfLog most torn) reader before after
-    pub is_status : status ≡ 0
-    pub said : Appends said_before said_after (torn_remark torn)
+      AnswersLogOrder label order manner reader before after said_before said_after status ⊎ RefusesLog order reader before after said_before said_after status
 
 module _ (label : Option (List ℕ)) (at_terminal : Bool) where
   -- why there is no page of a log is said
@@ -164,34 +172,37 @@ module _ (label : Option (List ℕ)) (at_terminal : Bool) where
   TellsOfPage page_failures.TooLong before after status =
       Refuses label at_terminal Reason (refusal_for forms.History failures.TooLong) failures.TooLong before after status
 
-  -- there is none, and why is said
-  pub record RefusesLogPage (most : ℕ) (reader before after said_before said_after : Known) (status : ℕ) : Type 0 where
-    pub error : PageError
-    pub fails : FailsToWrite most reader error
-    pub unwritten : error ≢ page_failures.Log log_failures.WriteFault → after ≡ before
-    pub tells : TellsOfPage error said_before said_after status
-
-  abbrev pub EndsLogPage : ℕ → Known → Known → Known → Known → Known → ℕ → Type 0
-  EndsLogPage most reader before after said_before said_after status =
-      ShowsLog label most reader before after said_before said_after status
-      ⊎ RefusesLogPage most reader before after said_before said_after status
-
   -- the page of a history was written
   pub record ShowsInput (most : ℕ) (long : Length) (reader before after said_before said_after : Known) (status : ℕ) : Type 0 where
     pub writes : WritesPage (most_bytes long) (IsPageOfInput most long) reader before after
     pub is_status : status ≡ 0
     pub quiet : said_after ≡ said_before
 
+module _ (may : Fault → Type 0) (label : Option (List ℕ)) (at_terminal : Bool) where
+  -- there is none, and why is said
+  pub record RefusesLogPage (most : ℕ) (reader before after said_before said_after : Known) (status : ℕ) : Type 0 where
+    pub error : PageError
+    pub fails : FailsToWrite most reader error
+    pub unwritten : error ≢ page_failures.Log log_failures.WriteFault → after ≡ before
+    pub blamed : MayFailOnPage may error
+    pub tells : TellsOfPage label at_terminal error said_before said_after status
+
+  abbrev pub EndsLogPage : ℕ → Known → Known → Known → Known → Known → ℕ → Type 0
+  EndsLogPage most reader before after said_before said_after status =
+      ShowsLog label most reader before after said_before said_after status
+      ⊎ RefusesLogPage most reader before after said_before said_after status
+
   -- it was not, and why is said
   pub record RefusesInputPage (most : ℕ) (long : Length) (detail : Detail) (reader before after said_before said_after : Known) (status : ℕ) : Type 0 where
     pub error : RunError
     pub fails : Fails (listing_order most long) reader error
     pub unwritten : error ≢ failures.WriteFault → after ≡ before
+    pub blamed : MayFail may error
     pub refuses : Refuses label at_terminal detail (refusal_for (history_form long) error) error said_before said_after status
 
   abbrev pub EndsPageOf : PageOf → ℕ → Detail → Known → Known → Known → Known → Known → ℕ → Type 0
   EndsPageOf (pages.Input long) most detail reader before after said_before said_after status =
-      ShowsInput most long reader before after said_before said_after status
+      ShowsInput label at_terminal most long reader before after said_before said_after status
       ⊎ RefusesInputPage most long detail reader before after said_before said_after status
   EndsPageOf pages.Log most detail reader before after said_before said_after status = EndsLogPage most reader before after said_before said_after status
 
@@ -202,14 +213,14 @@ module _ (label : Option (List ℕ)) (at_terminal : Bool) where
   -- the lines of an input are judged one after the other where that is the order, and else it is read whole
   abbrev pub EndsInput : Order → Detail → Manner → Known → Known → Known → Known → Known → ℕ → Type 0
   EndsInput order detail manner reader before after said_before said_after status =
-      (IsOfWhole order × EndsOrder label at_terminal order detail manner reader before after said_before said_after status)
-      ⊎ ((judging : LineJudging) × (order ≡ JudgeLines judging) × EndsLines label judging reader before after said_before said_after status)
+      (IsOfWhole order × EndsOrder may label at_terminal order detail manner reader before after said_before said_after status)
+      ⊎ ((judging : LineJudging) × (order ≡ JudgeLines judging) × EndsLines may label judging reader before after said_before said_after status)
 
   -- a task is carried out, whatever it is
   abbrev pub EndsTask : Task → Manner → Known → Known → Known → Known → Known → ℕ → Type 0
   EndsTask (OfInput order detail) manner reader before after said_before said_after status =
       EndsInput order detail manner reader before after said_before said_after status
   EndsTask (OfLog order) manner reader before after said_before said_after status =
-      EndsLog label order manner reader before after said_before said_after status
+      EndsLog may label order manner reader before after said_before said_after status
   EndsTask (OfPage page detail) manner reader before after said_before said_after status =
       EndsPage page detail reader before after said_before said_after status

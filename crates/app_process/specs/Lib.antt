@@ -5,5 +5,6 @@ pub mod Failing
 pub mod Usages
 pub mod LineRemarks
 pub mod Endings
+pub mod Faults
 pub mod Process
 pub mod Steps

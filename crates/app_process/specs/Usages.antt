@@ -18,16 +18,16 @@ is_version text = starts_with nat_eq text (codes "causal_judge ")
 abbrev pub IsGate : List ℕ → List ℕ → Type 0
 IsGate text more = (more ≡ []) ⊎ ((is_version text ≡ true) × (line : List ℕ) × BeginsWith (codes "gate ") line × (more ≡ ended line))
 
--- help or the version was written whole, or it could not be written
-abbrev pub ShowsHelp : List ℕ → Known → Known → Known → Known → ℕ → Type 0
-ShowsHelp text before after said_before said_after status =
+-- help or the version was written whole, or it could not be written, for which the writer may be blamed
+abbrev pub ShowsHelp : Type 0 → List ℕ → Known → Known → Known → Known → ℕ → Type 0
+ShowsHelp writing text before after said_before said_after status =
     ((more : List ℕ) × IsGate text more × Appends before after (text ++ more) × (said_after ≡ said_before) × (status ≡ 0))
-    ⊎ Tells None failures.WriteFault said_before said_after status
+    ⊎ (writing × Tells None failures.WriteFault said_before said_after status)
 
 -- help goes to the output, with status 0, and a fault of the words is said, with status 2: nothing is written then
-abbrev pub EndsUsage : Usage → Known → Known → Known → Known → ℕ → Type 0
-EndsUsage (Help text) before after said_before said_after status = ShowsHelp (string_bytes text) before after said_before said_after status
-EndsUsage (Fault text) before after said_before said_after status =
+abbrev pub EndsUsage : Type 0 → Usage → Known → Known → Known → Known → ℕ → Type 0
+EndsUsage writing (Help text) before after said_before said_after status = ShowsHelp writing (string_bytes text) before after said_before said_after status
+EndsUsage writing (Fault text) before after said_before said_after status =
     (after ≡ before) × Appends said_before said_after (string_bytes text) × (status ≡ 2)
-EndsUsage Memory before after said_before said_after status =
+EndsUsage writing Memory before after said_before said_after status =
     (after ≡ before) × Tells None failures.Memory said_before said_after status

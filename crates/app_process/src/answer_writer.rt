@@ -5,6 +5,7 @@ ghost use Rattle.std.specs.Prelude.{◌≡◌};
 use crate::painting::push_painted;
 use crate::place::Place;
 use crate::progress::Progress;
+use json_lines::{Sink, write_whole};
 use std::alloc::{AllocError, Global};
 use std::io;
 use std::io::Write;
@@ -39,22 +40,24 @@ impl<'a, P, W> AnswerWriter<'a, P, W> {
     }
 }
 
-impl<P: Eprint + Wait, W: Write> Write for AnswerWriter<'_, P, W> {
+impl<P: Eprint + Wait, W: Sink> Sink for AnswerWriter<'_, P, W> {
     ghost contents = { λ writer. W.contents writer.to };
 
-    fn write(&mut self, buffer: &[u8]) -> io::Result<usize> {
+    ghost called = { λ old call new. W.called old.to call new.to };
+
+    fn call_write(&mut self, buffer: &[u8]) -> io::Result<usize> {
         if let Some(progress) = self.progress {
             progress.before_answer(self.rt);
         }
-        let outcome = self.to.write(buffer);
+        let outcome = self.to.call_write(buffer);
         if let Some(progress) = self.progress {
             progress.after_answer(self.rt, ends_line(buffer, &outcome));
         }
         outcome
     }
 
-    fn flush(&mut self) -> io::Result<()> {
-        self.to.flush()
+    fn call_flush(&mut self) -> io::Result<()> {
+        self.to.call_flush()
     }
 }
 
@@ -123,27 +126,35 @@ impl<P, W> DressedWriter<'_, P, W> {
     }
 }
 
-impl<P: Eprint + Wait, W: Write> DressedWriter<'_, P, W> {
+impl<P: Eprint + Wait, W: Sink> DressedWriter<'_, P, W> {
     // Writes all of some bytes, with what comes before their lines.
     fn write_dressed(&mut self, bytes: &[u8]) -> io::Result<()> {
         match std::str::from_utf8(bytes) {
             Ok(text) => {
                 let dressed = self.dressed(text)?;
-                self.inner.write_all(dressed.as_bytes())
+                written(&mut self.inner, dressed.as_bytes())
             }
-            Err(_) => self.inner.write_all(bytes),
+            Err(_) => written(&mut self.inner, bytes),
         }
     }
 }
 
+// Writes all of some bytes.
+fn written<W: Sink>(writer: &mut W, bytes: &[u8]) -> io::Result<()> {
+    match write_whole(writer, bytes) {
+        Ok(()) => Ok(()),
+        Err(_) => Err(io::Error::from(io::ErrorKind::Other)),
+    }
+}
+
 // No clause says what it holds: its lines are not those that were written to it.
-impl<P: Eprint + Wait, W: Write> Write for DressedWriter<'_, P, W> {
+impl<P: Eprint + Wait, W: Sink> Write for DressedWriter<'_, P, W> {
     fn write(&mut self, buffer: &[u8]) -> io::Result<usize> {
         self.write_dressed(buffer)?;
         Ok(buffer.len())
     }
 
     fn flush(&mut self) -> io::Result<()> {
-        self.inner.flush()
+        self.inner.call_flush()
     }
 }

@@ -1,10 +1,12 @@
 //! What is asked for on one input.
 
-ghost use Rattle.std.specs.Prelude.{◌≡◌, ◌≢◌, ◌⊎◌, [], None, Some, false, true};
+ghost use Rattle.std.specs.Prelude.{◌≡◌, ◌≢◌, ◌⊎◌, ⊤, [], None, Some, false, true};
 ghost use Rattle.std.specs.Option.{option_copied};
+ghost use Rattle.app_process.specs.Faults.{Blames, ReadingFails, WritingFails};
 ghost use Rattle.app_process.specs.Dressing.{IsPainted, is_plain};
 ghost use Rattle.app_process.specs.Endings.{EndsInput, EndsTask};
 ghost use Rattle.app_process.specs.Process.{EndsAsked, GoesToFile, GoesToOutput};
+ghost use Rattle.app_process.specs.Saying.{SaysSome};
 
 use crate::answer_writer::{AnswerWriter, Dress, DressedWriter};
 use crate::counted::counted_at;
@@ -22,8 +24,8 @@ use crate::terminals::Terminals;
 use app_command_line::output_file;
 use app_logs::Rest;
 use app_orders::{Asked, Coloring, Detail, Manner, Order, Task};
+use json_lines::{Sink, Source};
 use std::env;
-use std::io::{Read, Write};
 use std::rt::{Env, Files};
 use std::sync::Wait;
 use std::thread::Threads;
@@ -118,11 +120,12 @@ impl<'a, P> Given<'a, P> {
 /// Does what is asked for on an input that a reader has, and returns the writer, what was said, and the exit status.
 pub(crate) fn status_of_asked<
     P: Env + Files + Threads + Wait + Sync + AllocGlobal + Eprint + Clock,
-    R: Read + Drop + Send,
-    W: Write + Drop + Send,
+    R: Source + Drop + Send,
+    W: Sink + Drop + Send,
     E: Say + Drop + Send,
 >(given: &Given<'_, P>, reader: R, writer: W, errors: E, asked: &Asked) -> (W, E, u8)
-    ensures { EndsAsked (option_copied given.now.place.label) given.now.place.is_terminal given.now.terminals.output asked.now
+    ensures { EndsAsked (ReadingFails 0 R.called) (WritingFails W.called)
+        (option_copied given.now.place.label) given.now.place.is_terminal given.now.terminals.output asked.now
         (R.remaining reader) (W.contents writer) (W.contents result.0) (E.said errors) (E.said result.1) result.2 }
 {
     match view_of(given, asked) {
@@ -134,11 +137,12 @@ pub(crate) fn status_of_asked<
 /// The same, where another thread may show how far the work is.
 pub(crate) fn status_said<
     P: Env + Files + Threads + Wait + Sync + AllocGlobal + Eprint + Clock,
-    R: Read + Drop + Send,
-    W: Write + Drop + Send,
+    R: Source + Drop + Send,
+    W: Sink + Drop + Send,
     E: Say,
 >(given: &Given<'_, P>, reader: R, writer: W, errors: E, asked: &Asked) -> (W, E, u8)
-    ensures { EndsAsked (option_copied given.now.place.label) given.now.place.is_terminal given.now.terminals.output asked.now
+    ensures { EndsAsked (ReadingFails 0 R.called) (WritingFails W.called)
+        (option_copied given.now.place.label) given.now.place.is_terminal given.now.terminals.output asked.now
         (R.remaining reader) (W.contents writer) (W.contents result.0) (E.said errors) (E.said result.1) result.2 }
 {
     let mut errors = errors;
@@ -150,11 +154,12 @@ pub(crate) fn status_said<
 #[tactic(auto, using(crate::proofs::AskedLaws::to_output, crate::proofs::AskedLaws::to_file))]
 fn status_by<
     P: Env + Files + Threads + Wait + Sync + AllocGlobal + Eprint + Clock,
-    R: Read + Drop + Send,
-    W: Write + Drop + Send,
+    R: Source + Drop + Send,
+    W: Sink + Drop + Send,
     E: Say,
 >(given: &Given<'_, P>, reader: R, writer: W, errors: &mut E, asked: &Asked) -> (W, u8)
-    ensures { EndsAsked (option_copied given.now.place.label) given.now.place.is_terminal given.now.terminals.output asked.now
+    ensures { EndsAsked (ReadingFails 0 R.called) (WritingFails W.called)
+        (option_copied given.now.place.label) given.now.place.is_terminal given.now.terminals.output asked.now
         (R.remaining reader) (W.contents writer) (W.contents result.0) (E.said errors.old) (E.said errors.new) result.1 }
 {
     if asked.manner.to_file {
@@ -168,11 +173,12 @@ fn status_by<
 #[tactic(auto, using(crate::proofs::AskedLaws::output_as_it_is, crate::proofs::AskedLaws::output_dressed))]
 fn status_with_output<
     P: Env + Files + Threads + Wait + Sync + AllocGlobal + Eprint + Clock,
-    R: Read + Drop + Send,
-    W: Write + Drop + Send,
+    R: Source + Drop + Send,
+    W: Sink + Drop + Send,
     E: Say,
 >(given: &Given<'_, P>, reader: R, writer: W, errors: &mut E, asked: &Asked) -> (W, u8)
-    ensures { GoesToOutput (option_copied given.now.place.label) given.now.place.is_terminal given.now.terminals.output asked.now
+    ensures { GoesToOutput (ReadingFails 0 R.called) (WritingFails W.called)
+        (option_copied given.now.place.label) given.now.place.is_terminal given.now.terminals.output asked.now
         (R.remaining reader) (W.contents writer) (W.contents result.0) (E.said errors.old) (E.said errors.new) result.1 }
 {
     let is_painted = is_painted(given, &asked.task, asked.manner.coloring);
@@ -196,11 +202,12 @@ fn is_plain(label: Option<&str>, is_painted: bool) -> bool
 // Writes what is asked for as it is.
 fn answer_plainly<
     P: Threads + Wait + Sync + AllocGlobal + Eprint + Clock,
-    R: Read + Drop + Send,
-    W: Write + Drop + Send,
+    R: Source + Drop + Send,
+    W: Sink + Drop + Send,
     E: Say,
 >(given: &Given<'_, P>, reader: R, writer: W, errors: &mut E, asked: &Asked) -> (W, u8)
-    ensures { EndsTask (option_copied given.now.place.label) given.now.place.is_terminal asked.now.task asked.now.manner
+    ensures { EndsTask (Blames (ReadingFails 0 R.called) (WritingFails W.called))
+        (option_copied given.now.place.label) given.now.place.is_terminal asked.now.task asked.now.manner
         (R.remaining reader) (W.contents writer) (W.contents result.0) (E.said errors.old) (E.said errors.new) result.1 }
 {
     let writer = AnswerWriter::of(&given.place, writer);
@@ -211,8 +218,8 @@ fn answer_plainly<
 // Writes what is asked for with its lines dressed.
 fn answer_dressed<
     P: Threads + Wait + Sync + AllocGlobal + Eprint + Clock,
-    R: Read + Drop + Send,
-    W: Write + Drop + Send,
+    R: Source + Drop + Send,
+    W: Sink + Drop + Send,
     E: Say,
 >(
     given: &Given<'_, P>,
@@ -222,7 +229,8 @@ fn answer_dressed<
     asked: &Asked,
     is_painted: bool,
 ) -> (W, u8)
-    ensures { EndsTask (option_copied given.now.place.label) given.now.place.is_terminal asked.now.task asked.now.manner
+    ensures { EndsTask (Blames (ReadingFails 0 R.called) ⊤)
+        (option_copied given.now.place.label) given.now.place.is_terminal asked.now.task asked.now.manner
         (R.remaining reader) None None (E.said errors.old) (E.said errors.new) result.1 }
 {
     let dress = Dress {
@@ -235,23 +243,57 @@ fn answer_dressed<
 }
 
 // The same, where the answer goes to a file.
+#[tactic(auto, using(crate::proofs::AskedLaws::is_saved, crate::proofs::AskedLaws::not_saved))]
 fn status_with_file<
     P: Env + Files + Threads + Wait + Sync + AllocGlobal + Eprint + Clock,
-    R: Read + Drop + Send,
+    R: Source + Drop + Send,
     E: Say,
 >(given: &Given<'_, P>, reader: R, errors: &mut E, asked: &Asked) -> u8
-    ensures { GoesToFile (option_copied given.now.place.label) given.now.place.is_terminal given.now.terminals.output asked.now
+    ensures { GoesToFile (ReadingFails 0 R.called)
+        (option_copied given.now.place.label) given.now.place.is_terminal given.now.terminals.output asked.now
         (R.remaining reader) None None (E.said errors.old) (E.said errors.new) result }
 {
-    let answer = Vec::new(given.place.rt.alloc());
-    let (answer, status) = answer_by(given, reader, answer, errors, asked);
+    let (answer, status) = answer_in_memory(given, reader, errors, asked);
     if status != 0 {
         return status;
     }
+    status_saved(given, errors, answer.as_slice())
+}
+
+// Writes an answer to the file that the words name for it, and returns the status.
+#[tactic(auto, using(crate::proofs::SaidLaws::says_no_more))]
+fn status_saved<P: Files + AllocGlobal + Eprint + Wait, E: Say>(
+    given: &Given<'_, P>,
+    errors: &mut E,
+    answer: &[u8],
+) -> u8
+    ensures { ((result ≡ 0) × (E.said errors.new ≡ E.said errors.old))
+        ⊎ ((result ≡ 3) × SaysSome (E.said errors.old) (E.said errors.new)) }
+{
     match output_file(given.words) {
-        Some(name) if save(&given.place, errors, name, answer.as_slice()) => 0,
-        _ => UNWRITTEN_STATUS,
+        Some(name) => {
+            if save(&given.place, errors, name, answer) {
+                0
+            } else {
+                UNWRITTEN_STATUS
+            }
+        }
+        None => UNWRITTEN_STATUS,
     }
+}
+
+// Makes the answer, which is what is asked for.
+fn answer_in_memory<
+    P: Threads + Wait + Sync + AllocGlobal + Eprint + Clock,
+    R: Source + Drop + Send,
+    E: Say,
+>(given: &Given<'_, P>, reader: R, errors: &mut E, asked: &Asked) -> (Vec<u8>, u8)
+    ensures { EndsTask (Blames (ReadingFails 0 R.called) ⊤) (option_copied given.now.place.label) given.now.place.is_terminal
+        asked.now.task asked.now.manner (R.remaining reader) (Some []) (Some result.0.items)
+        (E.said errors.old) (E.said errors.new) result.1 }
+{
+    let answer = Vec::new(given.place.rt.alloc());
+    answer_by(given, reader, answer, errors, asked)
 }
 
 // Whether the words of an answer are coloured.
@@ -271,17 +313,33 @@ fn is_painted<P: Env + AllocGlobal>(given: &Given<'_, P>, task: &Task, coloring:
 // Writes what is asked for, and returns the writer and the exit status.
 fn answer_by<
     P: Threads + Wait + Sync + AllocGlobal + Eprint + Clock,
-    R: Read + Drop + Send,
-    W: Write + Drop + Send,
+    R: Source + Drop + Send,
+    W: Sink + Drop + Send,
     E: Say,
 >(given: &Given<'_, P>, reader: R, writer: W, errors: &mut E, asked: &Asked) -> (W, u8)
-    ensures { EndsTask (option_copied given.now.place.label) given.now.place.is_terminal asked.now.task asked.now.manner
+    ensures { EndsTask (Blames (ReadingFails 0 R.called) (WritingFails W.called))
+        (option_copied given.now.place.label) given.now.place.is_terminal asked.now.task asked.now.manner
         (R.remaining reader) (W.contents writer) (W.contents result.0) (E.said errors.old) (E.said errors.new) result.1 }
+{
+    let reader = counted_at(&given.place, reader);
+    answer_from(given, reader, writer, errors, asked)
+}
+
+// The same, where the reader tells how much was read.
+fn answer_from<
+    P: Threads + Wait + Sync + AllocGlobal + Eprint + Clock,
+    R: Source + Drop + Send,
+    W: Sink + Drop + Send,
+    E: Say,
+>(given: &Given<'_, P>, reader: R, writer: W, errors: &mut E, asked: &Asked) -> (W, u8)
+    ensures { EndsTask (Blames (ReadingFails 0 R.called) (WritingFails W.called))
+        (option_copied given.now.place.label) given.now.place.is_terminal
+        asked.now.task asked.now.manner (R.remaining reader) (W.contents writer) (W.contents result.0)
+        (E.said errors.old) (E.said errors.new) result.1 }
 {
     let mut writer = writer;
     let place = &given.place;
     let manner = &asked.manner;
-    let reader = counted_at(place, reader);
     match asked.task {
         Task::OfInput(order, detail) => {
             answer_input(place, reader, writer, errors, &order, detail, manner)
@@ -302,8 +360,8 @@ fn answer_by<
 #[tactic(auto, using(crate::proofs::AskedLaws::by_lines, crate::proofs::AskedLaws::as_whole))]
 fn answer_input<
     P: Threads + Wait + Sync + AllocGlobal + Eprint,
-    R: Read + Drop + Send,
-    W: Write + Drop + Send,
+    R: Source + Drop + Send,
+    W: Sink + Drop + Send,
     E: Say,
 >(
     place: &Place<'_, P>,
@@ -314,7 +372,8 @@ fn answer_input<
     detail: Detail,
     manner: &Manner,
 ) -> (W, u8)
-    ensures { EndsInput (option_copied place.now.label) place.now.is_terminal order.now detail manner.now
+    ensures { EndsInput (Blames (ReadingFails 0 R.called) (WritingFails W.called))
+        (option_copied place.now.label) place.now.is_terminal order.now detail manner.now
         (R.remaining reader) (W.contents writer) (W.contents result.0) (E.said errors.old) (E.said errors.new) result.1 }
 {
     if let Order::JudgeLines(judging) = order {

@@ -5,8 +5,8 @@ ghost use Rattle.std.specs.Prelude.{◌≡◌};
 use crate::place::Place;
 use crate::progress::Progress;
 use crate::waiting::Waiting;
+use json_lines::Source;
 use std::io;
-use std::io::Read;
 
 /// A reader of the same bytes, which tells how many were read, where somebody shows it.
 #[derive(Drop)]
@@ -28,15 +28,23 @@ pub(crate) fn counted_at<'a, P, R>(
     }
 }
 
-impl<R: Read> Read for Counted<'_, R> {
+impl<R: Source> Source for Counted<'_, R> {
+    ghost use Rattle.app_process.specs.Steps.Readers.{PassesRead};
+
     ghost remaining = { λ counted. R.remaining counted.reader };
 
-    fn read(&mut self, buffer: &mut [u8]) -> io::Result<usize> {
-        let count = self.reader.read(buffer)?;
-        if let Some(progress) = self.progress {
-            tell(progress, count, buffer.is_empty());
+    ghost called = { λ old outcome new. PassesRead R.called old.reader outcome new.reader };
+
+    fn call(&mut self, buffer: &mut [u8]) -> io::Result<usize> {
+        match self.reader.call(buffer) {
+            Ok(count) => {
+                if let Some(progress) = self.progress {
+                    tell(progress, count, buffer.is_empty());
+                }
+                Ok(count)
+            }
+            Err(error) => Err(error),
         }
-        Ok(count)
     }
 }
 

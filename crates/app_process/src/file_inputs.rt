@@ -4,32 +4,37 @@ ghost use Rattle.std.specs.Prelude.{◌≡◌, MatchOption, map, string_bytes, t
 ghost use Rattle.std.specs.Io.KnownBytes.{prepend_known};
 ghost use Rattle.std.specs.Option.{option_copied};
 ghost use Rattle.app_command_line.specs.CommandLine.{AsksNothing, IsCommandLine};
+ghost use Rattle.app_process.specs.Faults.{ReadingFails, WritingFails, most_ahead};
 ghost use Rattle.app_process.specs.Process.{EndAll, EndsFile, EndsFiles, EndsInputOf, EndsMisuse, IsOfOne, NameSeveral, SaysSeveral};
 ghost use Rattle.app_process.specs.Process.{AskForLook, is_seen, judges_lines, label_of, reads_lines};
 ghost use Rattle.app_process.specs.Statuses.{rank, worse};
 ghost use Rattle.app_process.specs.Steps.Choices.{AreChoices};
+ghost use Rattle.app_process.specs.Steps.Readings.{EndsUnlooked};
 
 use crate::asked_input::{Given, status_of_asked};
 use crate::choices::Choices;
-use crate::file_opening::{opened, rest_of, say_of_file};
+use crate::file_opening::say_of_file;
+use crate::files::{Open, STANDARD_INPUT};
 use crate::first_bytes::{FirstBytes, look};
+use crate::place::Place;
+use crate::read_ahead::ReadAhead;
 use crate::saying::Say;
 use crate::terminals::Terminals;
 use crate::usage::{USAGE_STATUS, report_usage};
 use crate::waiting::Waiting;
 use app_command_line::{Sight, command_of, next_file, usage_fault};
 use app_orders::{Asked, Order, Task};
-use std::io::{Read, Write};
+use json_lines::{Fault, Sink, Source};
 use std::rt::{Env, Files};
 use std::sync::Wait;
 use std::thread::Threads;
 use std::time::Clock;
 
-// The name of standard input among files.
-const STANDARD_INPUT: &str = "-";
-
 // The status after a file that could not be read.
 const UNREAD_STATUS: u8 = 3;
+
+// The status after a run for which memory was short.
+const MEMORY_STATUS: u8 = 4;
 
 /// Does what the words order on each of the files that they name, one after the other, and returns the writer, what was said, and the worst
 /// status.
@@ -38,21 +43,21 @@ const UNREAD_STATUS: u8 = 3;
 /// line holds a history. A file that can't be opened is named on standard error.
 #[tactic(auto, using(crate::proofs::FileLaws::each_ends, crate::proofs::FileLaws::misuse_ends, crate::proofs::FileLaws::several_ends, crate::proofs::FileLaws::none_unseen))]
 pub(crate) fn status_on_files<
-    P: Env + Files + Threads + Wait + Sync + AllocGlobal + Input + Eprint + Clock,
-    W: Write + Drop + Send,
+    P: Env + Files + Threads + Wait + Sync + AllocGlobal + Eprint + Clock,
+    F: Open,
+    W: Sink + Drop + Send,
     E: Say + Drop + Send,
 >(
     rt: &P,
+    files: &F,
     terminals: Terminals,
     words: &[String],
     further: &[String],
     writer: W,
     errors: E,
 ) -> (W, E, u8)
-where
-    P::Reader: Send,
-    P::File: Send,
-    ensures { EndsFiles (map string_bytes words.now) terminals (map string_bytes further.now)
+    ensures { EndsFiles (F.opens files.now) (F.lacks files.now) (ReadingFails most_ahead F.File.called) (WritingFails W.called)
+        (map string_bytes words.now) terminals (map string_bytes further.now)
         (W.contents writer) (W.contents result.0) (E.said errors) (E.said result.1) result.2 }
 {
     let mut writer = writer;
@@ -69,6 +74,7 @@ where
     }
     let all = Inputs {
         rt,
+        files,
         terminals,
         words,
         is_many,
@@ -78,8 +84,9 @@ where
 
 /// What is known of all files.
 #[derive(Clone, Copy)]
-struct Inputs<'a, P> {
+struct Inputs<'a, P, F> {
     rt: &'a P,
+    files: &'a F,
     terminals: Terminals,
     words: &'a [String],
     /// Whether there are several.
@@ -89,16 +96,15 @@ struct Inputs<'a, P> {
 // Does what the words order on each file that further words name, and returns the worst status.
 #[tactic(auto, using(crate::proofs::FileLaws::so_far_none, crate::proofs::FileLaws::so_far_more, crate::proofs::FileLaws::so_far_all))]
 fn status_of_each<
-    P: Env + Files + Threads + Wait + Sync + AllocGlobal + Input + Eprint + Clock,
-    W: Write + Drop + Send,
+    P: Env + Files + Threads + Wait + Sync + AllocGlobal + Eprint + Clock,
+    F: Open,
+    W: Sink + Drop + Send,
     E: Say + Drop + Send,
->(all: &Inputs<'_, P>, choices: &Choices, further: &[String], writer: W, errors: E) -> (W, E, u8)
-where
-    P::Reader: Send,
-    P::File: Send,
+>(all: &Inputs<'_, P, F>, choices: &Choices, further: &[String], writer: W, errors: E) -> (W, E, u8)
     requires choices { AreChoices (map string_bytes all.now.words.now) choices.now }
     requires several { NameSeveral (map string_bytes further.now) all.now.is_many }
-    ensures { EndAll (map string_bytes all.now.words.now) all.now.terminals (map string_bytes further.now)
+    ensures { EndAll (F.opens all.now.files.now) (F.lacks all.now.files.now) (ReadingFails most_ahead F.File.called) (WritingFails W.called)
+        (map string_bytes all.now.words.now) all.now.terminals (map string_bytes further.now)
         (W.contents writer) (W.contents result.0) (E.said errors) (E.said result.1) result.2 }
 {
     let mut writer = writer;
@@ -159,7 +165,7 @@ fn is_of_one(asked: &Asked) -> bool
 }
 
 // Writes what is wrong with words that ask for nothing on an input that looks so.
-fn status_of_usage<P: Files + AllocGlobal + Eprint + Wait, W: Write, E: Say>(
+fn status_of_usage<P: Files + AllocGlobal + Eprint + Wait, W: Sink, E: Say>(
     rt: &P,
     words: &[String],
     sight: Sight,
@@ -167,7 +173,7 @@ fn status_of_usage<P: Files + AllocGlobal + Eprint + Wait, W: Write, E: Say>(
     errors: &mut E,
 ) -> u8
     requires { AsksNothing sight (map string_bytes words.now) }
-    ensures { EndsMisuse sight (map string_bytes words.now) (W.contents writer.old) (W.contents writer.new)
+    ensures { EndsMisuse (WritingFails W.called) sight (map string_bytes words.now) (W.contents writer.old) (W.contents writer.new)
         (E.said errors.old) (E.said errors.new) result }
 {
     match command_of(rt.alloc(), words, sight) {
@@ -187,28 +193,24 @@ fn say_several<P: AllocGlobal, E: Say>(rt: &P, errors: &mut E)
 }
 
 // Does what the words order on one file.
-#[tactic(auto, using(crate::proofs::FileLaws::read_ends, crate::proofs::FileLaws::unread_ends))]
+#[tactic(auto, using(crate::proofs::FileLaws::unread_ends))]
 fn status_on_file<
-    P: Env + Files + Threads + Wait + Sync + AllocGlobal + Input + Eprint + Clock,
-    W: Write + Drop + Send,
+    P: Env + Files + Threads + Wait + Sync + AllocGlobal + Eprint + Clock,
+    F: Open,
+    W: Sink + Drop + Send,
     E: Say + Drop + Send,
->(all: &Inputs<'_, P>, choices: &Choices, name: &str, writer: W, errors: E) -> (W, E, u8)
-where
-    P::Reader: Send,
-    P::File: Send,
+>(all: &Inputs<'_, P, F>, choices: &Choices, name: &str, writer: W, errors: E) -> (W, E, u8)
     requires { AreChoices (map string_bytes all.now.words.now) choices.now }
-    ensures { EndsFile (map string_bytes all.now.words.now) all.now.terminals (label_of all.now.is_many name.now)
+    ensures { EndsFile (F.opens all.now.files.now) (F.lacks all.now.files.now) (ReadingFails most_ahead F.File.called)
+        (WritingFails W.called)
+        (map string_bytes all.now.words.now) all.now.terminals name.now (label_of all.now.is_many name.now)
         (W.contents writer) (W.contents result.0) (E.said errors) (E.said result.1) result.2 }
 {
     let label = label_for(all.is_many, name);
     let given = Given::of(all.rt, all.terminals, all.words, label, file_named(name));
-    if name == STANDARD_INPUT {
-        let reader = all.rt.reader();
-        return status_on_reader(&given, choices, name, reader, writer, errors);
-    }
-    match opened(all.rt, name) {
+    match all.files.open(name) {
         Ok(file) => {
-            let given = given.with_rest(rest_of(&file));
+            let given = given.with_rest(all.files.rest_of(&file));
             status_on_reader(&given, choices, name, file, writer, errors)
         }
         Err(fault) => {
@@ -223,8 +225,8 @@ where
 #[tactic(auto, using(crate::proofs::FileLaws::lines_end))]
 fn status_on_reader<
     P: Env + Files + Threads + Wait + Sync + AllocGlobal + Eprint + Clock,
-    R: Read + Drop + Send,
-    W: Write + Drop + Send,
+    R: Source + Drop + Send,
+    W: Sink + Drop + Send,
     E: Say + Drop + Send,
 >(
     given: &Given<'_, P>,
@@ -236,7 +238,8 @@ fn status_on_reader<
 ) -> (W, E, u8)
     requires choices { AreChoices (map string_bytes given.now.words.now) choices.now }
     requires terminal { given.now.place.is_terminal ≡ given.now.terminals.error }
-    ensures { EndsInputOf (map string_bytes given.now.words.now) given.now.terminals (option_copied given.now.place.label)
+    ensures { EndsInputOf (ReadingFails most_ahead R.called) (WritingFails W.called)
+        (map string_bytes given.now.words.now) given.now.terminals (option_copied given.now.place.label)
         (R.remaining reader) (W.contents writer) (W.contents result.0) (E.said errors) (E.said result.1) result.2 }
 {
     match asked_of_lines(choices, given.words) {
@@ -265,11 +268,11 @@ fn asked_of_lines(choices: &Choices, words: &[String]) -> Option<Asked>
 }
 
 // The same, by how the input looks.
-#[tactic(auto, using(crate::proofs::FileLaws::read_again, crate::proofs::FileLaws::not_read))]
+#[tactic(auto, using(crate::proofs::FileLaws::read_again))]
 fn status_by_look<
     P: Env + Files + Threads + Wait + Sync + AllocGlobal + Eprint + Clock,
-    R: Read + Drop + Send,
-    W: Write + Drop + Send,
+    R: Source + Drop + Send,
+    W: Sink + Drop + Send,
     E: Say + Drop + Send,
 >(
     given: &Given<'_, P>,
@@ -282,16 +285,39 @@ fn status_by_look<
     requires choices { AreChoices (map string_bytes given.now.words.now) choices.now }
     requires looks { AskForLook (map string_bytes given.now.words.now) }
     requires terminal { given.now.place.is_terminal ≡ given.now.terminals.error }
-    ensures { EndsInputOf (map string_bytes given.now.words.now) given.now.terminals (option_copied given.now.place.label)
+    ensures { EndsInputOf (ReadingFails most_ahead R.called) (WritingFails W.called)
+        (map string_bytes given.now.words.now) given.now.terminals (option_copied given.now.place.label)
         (R.remaining reader) (W.contents writer) (W.contents result.0) (E.said errors) (E.said result.1) result.2 }
 {
     let mut reader = Waiting::by(given.place.rt, reader);
     match look(given.place.rt.alloc(), &mut reader) {
         Ok(first) => status_after(given, choices, first, reader, writer, errors),
-        Err(_) => {
+        Err(fault) => {
             let mut errors = errors;
-            say_of_file(&mut errors, name, "it can't be read");
-            (writer, errors, UNREAD_STATUS)
+            let status = say_unlooked(&given.place, name, &mut errors, fault);
+            (writer, errors, status)
+        }
+    }
+}
+
+// Says why it was not found how an input looks, and returns the status.
+#[tactic(auto, using(crate::proofs::FileLaws::lacks_memory, crate::proofs::FileLaws::is_unread))]
+fn say_unlooked<P: Eprint + Wait, E: Say>(
+    place: &Place<'_, P>,
+    name: &str,
+    errors: &mut E,
+    fault: Fault,
+) -> u8
+    ensures { EndsUnlooked (option_copied place.now.label) fault (E.said errors.old) (E.said errors.new) result }
+{
+    match fault {
+        Fault::Memory => {
+            place.say(errors, "no memory");
+            MEMORY_STATUS
+        }
+        Fault::Read | Fault::Write => {
+            say_of_file(errors, name, "it can't be read");
+            UNREAD_STATUS
         }
     }
 }
@@ -325,8 +351,8 @@ fn judges_lines(order: &Order) -> bool
 // Does what the words order on an input whose first bytes were read.
 fn status_after<
     P: Env + Files + Threads + Wait + Sync + AllocGlobal + Eprint + Clock,
-    R: Read + Drop + Send,
-    W: Write + Drop + Send,
+    R: Source + Drop + Send,
+    W: Sink + Drop + Send,
     E: Say + Drop + Send,
 >(
     given: &Given<'_, P>,
@@ -340,13 +366,14 @@ fn status_after<
     requires looks { AskForLook (map string_bytes given.now.words.now) }
     requires seen { is_seen first.sight ≡ true }
     requires terminal { given.now.place.is_terminal ≡ given.now.terminals.error }
-    ensures { EndsInputOf (map string_bytes given.now.words.now) given.now.terminals (option_copied given.now.place.label)
+    ensures { EndsInputOf (ReadingFails most_ahead R.called) (WritingFails W.called)
+        (map string_bytes given.now.words.now) given.now.terminals (option_copied given.now.place.label)
         (prepend_known first.bytes.items (R.remaining reader))
         (W.contents writer) (W.contents result.0) (E.said errors) (E.said result.1) result.2 }
 {
     match choices.on(given.words, first.sight) {
         Some(asked) => {
-            let reader = first.bytes.as_slice().chain(reader);
+            let reader = ReadAhead::of(first.bytes.as_slice(), reader);
             status_of_asked(given, reader, writer, errors, &asked)
         }
         None => {

@@ -1,14 +1,15 @@
 //! The form of an input, as far as its first bytes show it.
 
-ghost use Rattle.std.specs.Prelude.{◌≡◌, IfOk, IfSome, OnOk, true};
+ghost use Rattle.std.specs.Prelude.{◌≡◌, ◌≢◌, IfErr, IfOk, IfSome, OnOk, true};
 ghost use Rattle.std.specs.Io.KnownBytes.{Consumes};
+ghost use Rattle.app_process.specs.Faults.{ReadingFails};
 ghost use Rattle.app_process.specs.Process.{is_seen};
 ghost use Rattle.app_process.specs.Steps.Readings.{Reads};
 
 use app_command_line::Sight;
+use json_lines::{Fault, Source};
 use std::alloc::Global;
 use std::io;
-use std::io::Read;
 
 // How many bytes of an input are looked at, and by how many read calls.
 const MOST_BYTES: usize = 4096;
@@ -30,9 +31,10 @@ pub(crate) struct FirstBytes {
 ///
 /// Where there is none within some first bytes, the form is [`Sight::Other`]. It fails where a read call does, or for want of memory.
 #[tactic(auto, using(crate::proofs::ReadLaws::consumes_nothing, crate::proofs::ReadLaws::consumes_more))]
-pub(crate) fn look<R: Read>(alloc: Global, reader: &mut R) -> io::Result<FirstBytes>
+pub(crate) fn look<R: Source>(alloc: Global, reader: &mut R) -> Result<FirstBytes, Fault>
     ensures bytes { IfOk result (λ first. Consumes (R.remaining reader.old) (R.remaining reader.new) first.bytes.items) }
     ensures sight { IfOk result (λ first. is_seen first.sight ≡ true) }
+    ensures fault { IfErr result (λ e. e ≢ Fault.Memory → ReadingFails 0 R.called) }
 {
     let mut bytes = Vec::new(alloc);
     'calls: for _ in 0..MOST_CALLS {
@@ -51,18 +53,19 @@ pub(crate) fn look<R: Read>(alloc: Global, reader: &mut R) -> io::Result<FirstBy
 }
 
 // Makes one read call, appends what it gave, and returns whether there may be more.
-#[tactic(auto, using(crate::proofs::ReadLaws::reads_nothing))]
-fn read_more<R: Read>(reader: &mut R, bytes: &mut Vec<u8>) -> io::Result<bool>
-    ensures { OnOk result (Reads (R.remaining reader.old) (R.remaining reader.new) bytes.old.items bytes.new.items) }
+#[tactic(auto, using(crate::proofs::ReadLaws::reads_nothing, crate::proofs::FaultLaws::read_call_fails))]
+fn read_more<R: Source>(reader: &mut R, bytes: &mut Vec<u8>) -> Result<bool, Fault>
+    ensures given { OnOk result (Reads (R.remaining reader.old) (R.remaining reader.new) bytes.old.items bytes.new.items) }
+    ensures fault { IfErr result (λ e. e ≢ Fault.Memory → ReadingFails 0 R.called) }
 {
     let mut chunk = [0u8; CHUNK_BYTES];
-    match reader.read(&mut chunk) {
+    match reader.call(&mut chunk) {
         Ok(count) => {
             bytes.extend_from_slice(&chunk[..count])?;
             Ok(count > 0)
         }
         Err(error) if error.kind() == io::ErrorKind::Interrupted => Ok(true),
-        Err(error) => Err(error),
+        Err(_) => Err(Fault::Read),
     }
 }
 

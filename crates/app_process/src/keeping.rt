@@ -2,9 +2,9 @@
 
 ghost use Rattle.std.specs.Prelude.{◌≡◌};
 
+use json_lines::Source;
 use std::alloc::Global;
 use std::io;
-use std::io::Read;
 
 /// A reader of the same bytes, which keeps them where that is wanted and memory suffices.
 #[derive(Drop)]
@@ -46,12 +46,20 @@ fn keep(kept: &mut Option<Vec<u8>>, bytes: &[u8]) {
     }
 }
 
-impl<R: Read> Read for Keeping<R> {
+impl<R: Source> Source for Keeping<R> {
+    ghost use Rattle.app_process.specs.Steps.Readers.{PassesRead};
+
     ghost remaining = { λ keeping. R.remaining keeping.reader };
 
-    fn read(&mut self, buffer: &mut [u8]) -> io::Result<usize> {
-        let count = self.reader.read(buffer)?;
-        keep(&mut self.kept, &buffer[..count]);
-        Ok(count)
+    ghost called = { λ old outcome new. PassesRead R.called old.reader outcome new.reader };
+
+    fn call(&mut self, buffer: &mut [u8]) -> io::Result<usize> {
+        match self.reader.call(buffer) {
+            Ok(count) => {
+                keep(&mut self.kept, &buffer[..count]);
+                Ok(count)
+            }
+            Err(error) => Err(error),
+        }
     }
 }

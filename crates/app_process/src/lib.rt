@@ -1,7 +1,8 @@
 //! The process of the program `causal_judge`: its words, its files and streams, and its exit status.
 //!
 //! It gives [`status_of_process`], which does what the words order, over the engine for inputs and the engine for logs of events; and
-//! [`status_of_words`], which does the same with any reader, writer and place for what is said beside ([`Say`]), and says what comes of it.
+//! [`status_of_words`], which does the same with any files ([`Open`]), any reader, writer and place for what is said beside
+//! ([`Say`]), and says what comes of it.
 #![tactic(auto)]
 
 mod answer_writer;
@@ -12,6 +13,7 @@ mod counted;
 mod counting;
 mod file_inputs;
 mod file_opening;
+mod files;
 mod first_bytes;
 mod keeping;
 mod line_process;
@@ -24,6 +26,7 @@ mod place;
 mod program;
 mod progress;
 mod progress_view;
+mod read_ahead;
 mod refused;
 mod reporting;
 mod saving;
@@ -34,6 +37,7 @@ mod terminals;
 mod usage;
 mod waiting;
 
+pub use files::Open;
 pub use program::{status_of_process, status_of_words};
 pub use saying::Say;
 pub use terminals::Terminals;

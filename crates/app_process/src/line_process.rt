@@ -4,6 +4,7 @@ ghost use Rattle.std.specs.Prelude.{◌≡◌, ◌≢◌, ◌⊎◌, IfErr, IfOk
 ghost use Rattle.std.specs.Option.{option_copied};
 ghost use Rattle.json_lines.specs.Lines.{AllAreAnswered, FirstAreAnswered};
 ghost use Rattle.app_engine.specs.LineAnswers.{IsLineAnswer};
+ghost use Rattle.app_process.specs.Faults.{Blames, MayFail, ReadingFails, WritingFails};
 ghost use Rattle.app_process.specs.Endings.{EndsLines};
 ghost use Rattle.app_process.specs.Steps.LineOutcomes.{SaysOutcome};
 ghost use Rattle.app_process.specs.Steps.Noticing.{HasNoticed, SaysNoticed};
@@ -14,8 +15,7 @@ use crate::reporting::report;
 use crate::saying::Say;
 use app_engine::{RunError, judge_lines};
 use app_orders::LineJudging;
-use json_lines::Outcome;
-use std::io::{Read, Write};
+use json_lines::{Outcome, Sink, Source};
 use std::sync::Wait;
 use std::thread::Threads;
 
@@ -24,11 +24,12 @@ use std::thread::Threads;
 /// Standard error gets one remark for the first blank line that is refused, and one for the first line that breaks off inside a JSON text.
 pub(crate) fn judge_lines_of_process<
     P: Threads + Wait + Sync + AllocGlobal + Eprint,
-    R: Read + Drop + Send,
-    W: Write + Drop + Send,
+    R: Source + Drop + Send,
+    W: Sink + Drop + Send,
     E: Say,
 >(place: &Place<'_, P>, reader: R, writer: W, errors: &mut E, judging: LineJudging) -> (W, u8)
-    ensures { EndsLines (option_copied place.now.label) judging (R.remaining reader) (W.contents writer) (W.contents result.0)
+    ensures { EndsLines (Blames (ReadingFails 0 R.called) (WritingFails W.called))
+        (option_copied place.now.label) judging (R.remaining reader) (W.contents writer) (W.contents result.0)
         (E.said errors.old) (E.said errors.new) result.1 }
 {
     let reader = Noticing::of(judging.blank, reader);
@@ -41,8 +42,8 @@ pub(crate) fn judge_lines_of_process<
 // noticed.
 fn judge_noticed<
     P: Threads + Wait + Sync + AllocGlobal,
-    R: Read + Drop + Send,
-    W: Write + Drop + Send,
+    R: Source + Drop + Send,
+    W: Sink + Drop + Send,
 >(
     rt: &P,
     reader: Noticing<R>,
@@ -54,6 +55,7 @@ fn judge_noticed<
     ensures faulted { IfErr result.2 (λ e. e ≢ RunError.WriteFault → FirstAreAnswered (IsLineAnswer judging)
         (R.remaining reader.reader) (W.contents writer) (W.contents result.1)) }
     ensures error { IfErr result.2 (λ e. (e ≡ RunError.Memory) ⊎ ((e ≡ RunError.ReadFault) ⊎ (e ≡ RunError.WriteFault))) }
+    ensures blamed { IfErr result.2 (MayFail (Blames (ReadingFails 0 R.called) (WritingFails W.called))) }
     ensures noticed { OnOk result.2 (HasNoticed reader.noticed (R.remaining reader.reader) result.0.noticed) }
 {
     judge_lines(rt, reader, writer, judging)

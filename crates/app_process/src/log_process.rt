@@ -4,6 +4,7 @@ ghost use Rattle.std.specs.Prelude.{Option, ℕ, List, ◌≡◌, is_some};
 ghost use Rattle.std.specs.Io.KnownBytes.{Appends};
 ghost use Rattle.std.specs.Option.{option_copied};
 ghost use Rattle.app_logs.specs.LogAnswers.{every_in};
+ghost use Rattle.app_process.specs.Faults.{Blames, ReadingFails, WritingFails};
 ghost use Rattle.app_process.specs.Endings.{EndsLog, IsLateRemark, SaysCounts, SaysRemarks, TellsOfLog, cut_remark, is_excluded};
 ghost use Rattle.app_process.specs.Endings.{torn_remark};
 ghost use Rattle.app_process.specs.Statuses.{status_after, wants_counts};
@@ -15,8 +16,7 @@ use crate::saying::Say;
 use crate::summary::{status_by_counts, wants_counts};
 use app_logs::{Followed, LateWrite, LogError, Rest, error_lines, follow_log, status_of_error};
 use app_orders::{LogOrder, Manner};
-use json_lines::Outcome;
-use std::io::{Read, Write};
+use json_lines::{Outcome, Sink, Source};
 use std::sync::Wait;
 use std::thread::Threads;
 
@@ -37,8 +37,8 @@ const EXPLAINED_CUT: &str =
 #[tactic(auto, using(crate::proofs::EndLaws::answers_log, crate::proofs::EndLaws::refuses_log))]
 pub(crate) fn status_of_log<
     P: Threads + Wait + Sync + AllocGlobal + Eprint,
-    R: Read + Drop,
-    W: Write,
+    R: Source + Drop,
+    W: Sink,
     E: Say,
 >(
     place: &Place<'_, P>,
@@ -49,7 +49,8 @@ pub(crate) fn status_of_log<
     manner: &Manner,
     rest: Rest,
 ) -> u8
-    ensures { EndsLog (option_copied place.now.label) order manner.now (R.remaining reader) (W.contents writer.old) (W.contents writer.new)
+    ensures { EndsLog (Blames (ReadingFails 0 R.called) (WritingFails W.called))
+        (option_copied place.now.label) order manner.now (R.remaining reader) (W.contents writer.old) (W.contents writer.new)
         (E.said errors.old) (E.said errors.new) result }
 {
     let mut source = Keeping::of(place.rt.alloc(), reader, wants_counts(manner));

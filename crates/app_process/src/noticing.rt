@@ -9,7 +9,6 @@ use app_orders::BlankLines;
 use json_lines::Source;
 use std::alloc::{AllocError, Global};
 use std::io;
-use std::io::Read;
 
 /// A source of the bytes of a reader, which notices lines that hold no history for a reason that is often met: the first blank one, and
 /// the first in which brackets or a text are not closed, as where one history is broken over several lines.
@@ -39,15 +38,17 @@ impl<R> Noticing<R> {
     }
 }
 
-impl<R: Read> Source for Noticing<R> {
+impl<R: Source> Source for Noticing<R> {
     ghost use Rattle.app_process.specs.Steps.Noticing.{Notices};
+    ghost use Rattle.app_process.specs.Steps.Readers.{PassesRead};
 
     ghost remaining = { λ noticing. R.remaining noticing.reader };
 
-    ghost called = { λ old _ new. Notices (R.remaining old.reader) (R.remaining new.reader) old.noticed new.noticed };
+    ghost called = { λ old outcome new. Notices (R.remaining old.reader) (R.remaining new.reader) old.noticed new.noticed
+        × PassesRead R.called old.reader outcome new.reader };
 
     fn call(&mut self, buffer: &mut [u8]) -> io::Result<usize> {
-        match self.reader.read(buffer) {
+        match self.reader.call(buffer) {
             Ok(count) => {
                 self.noticed.see_all(&buffer[..count]);
                 Ok(count)

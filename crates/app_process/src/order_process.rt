@@ -2,6 +2,7 @@
 
 ghost use Rattle.std.specs.Prelude.{Option, ℕ, ◌≡◌};
 ghost use Rattle.std.specs.Option.{option_copied};
+ghost use Rattle.app_process.specs.Faults.{Blames, ReadingFails, WritingFails};
 ghost use Rattle.app_process.specs.Endings.{EndsOrder, SaysCounts};
 ghost use Rattle.app_process.specs.Statuses.{status_after, wants_counts};
 
@@ -13,7 +14,7 @@ use crate::saying::Say;
 use crate::summary::{status_by_counts, wants_counts};
 use app_engine::run_keeping;
 use app_orders::{Detail, Manner, Order};
-use std::io::{Read, Write};
+use json_lines::{Sink, Source};
 use std::sync::Wait;
 use std::thread::Threads;
 
@@ -21,8 +22,8 @@ use std::thread::Threads;
 #[tactic(auto, using(crate::proofs::EndLaws::answers_order, crate::proofs::EndLaws::refuses_order))]
 pub(crate) fn status_of_order<
     P: Threads + Wait + Sync + AllocGlobal + Eprint,
-    R: Read + Drop,
-    W: Write,
+    R: Source + Drop,
+    W: Sink,
     E: Say,
 >(
     place: &Place<'_, P>,
@@ -33,7 +34,8 @@ pub(crate) fn status_of_order<
     detail: Detail,
     manner: &Manner,
 ) -> u8
-    ensures { EndsOrder (option_copied place.now.label) place.now.is_terminal order.now detail manner.now
+    ensures { EndsOrder (Blames (ReadingFails 0 R.called) (WritingFails W.called))
+        (option_copied place.now.label) place.now.is_terminal order.now detail manner.now
         (R.remaining reader) (W.contents writer.old) (W.contents writer.new) (E.said errors.old) (E.said errors.new) result }
 {
     let mut reader = reader;

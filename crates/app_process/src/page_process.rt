@@ -1,6 +1,7 @@
 //! Pages on what an input holds.
 
 ghost use Rattle.std.specs.Option.{option_copied};
+ghost use Rattle.app_process.specs.Faults.{Blames, ReadingFails, WritingFails};
 ghost use Rattle.app_process.specs.Endings.{EndsLogPage, EndsPage, EndsPageOf, TellsOfPage};
 
 use crate::log_process::{report_error, say_torn};
@@ -11,19 +12,20 @@ use crate::saying::Say;
 use app_engine::RunError;
 use app_orders::{Detail, Length, Page, PageOf};
 use app_pages::{PageError, page_of_input, page_of_log};
+use json_lines::{Sink, Source};
 use show_refusals::InputForm;
-use std::io::{Read, Write};
 use std::sync::Wait;
 use std::thread::Threads;
 
 /// Writes the page that is ordered, and returns the exit status.
 pub(crate) fn write_page_of_process<
     P: Threads + Wait + Sync + AllocGlobal + Eprint,
-    R: Read + Drop,
-    W: Write,
+    R: Source + Drop,
+    W: Sink,
     E: Say,
 >(place: &Place<'_, P>, reader: R, writer: &mut W, errors: &mut E, page: Page, detail: Detail) -> u8
-    ensures { EndsPage (option_copied place.now.label) place.now.is_terminal page detail (R.remaining reader)
+    ensures { EndsPage (Blames (ReadingFails 0 R.called) (WritingFails W.called))
+        (option_copied place.now.label) place.now.is_terminal page detail (R.remaining reader)
         (W.contents writer.old) (W.contents writer.new) (E.said errors.old) (E.said errors.new) result }
 {
     match page.of {
@@ -38,8 +40,8 @@ pub(crate) fn write_page_of_process<
 #[tactic(auto, using(crate::proofs::PageLaws::shows_input, crate::proofs::PageLaws::refuses_input))]
 fn write_page_of_history<
     P: Threads + Wait + Sync + AllocGlobal + Eprint,
-    R: Read + Drop,
-    W: Write,
+    R: Source + Drop,
+    W: Sink,
     E: Say,
 >(
     place: &Place<'_, P>,
@@ -50,7 +52,8 @@ fn write_page_of_history<
     length: Length,
     detail: Detail,
 ) -> u8
-    ensures { EndsPageOf (option_copied place.now.label) place.now.is_terminal (PageOf.Input length) most detail (R.remaining reader)
+    ensures { EndsPageOf (Blames (ReadingFails 0 R.called) (WritingFails W.called))
+        (option_copied place.now.label) place.now.is_terminal (PageOf.Input length) most detail (R.remaining reader)
         (W.contents writer.old) (W.contents writer.new) (E.said errors.old) (E.said errors.new) result }
 {
     let mut reader = reader;
@@ -68,11 +71,12 @@ fn write_page_of_history<
 #[tactic(auto, using(crate::proofs::PageLaws::shows_log, crate::proofs::PageLaws::refuses_log_page))]
 fn write_page_of_log<
     P: Threads + Wait + Sync + AllocGlobal + Eprint,
-    R: Read + Drop,
-    W: Write,
+    R: Source + Drop,
+    W: Sink,
     E: Say,
 >(place: &Place<'_, P>, reader: R, writer: &mut W, errors: &mut E, most: u32) -> u8
-    ensures { EndsLogPage (option_copied place.now.label) place.now.is_terminal most (R.remaining reader)
+    ensures { EndsLogPage (Blames (ReadingFails 0 R.called) (WritingFails W.called))
+        (option_copied place.now.label) place.now.is_terminal most (R.remaining reader)
         (W.contents writer.old) (W.contents writer.new) (E.said errors.old) (E.said errors.new) result }
 {
     let mut source = reader;

@@ -1,15 +1,17 @@
 //! The process: its words, its streams and its exit status.
 
 ghost use Rattle.std.specs.Prelude.{◌≤◌, IfSome, MatchOption, map, string_bytes};
+ghost use Rattle.app_process.specs.Faults.{ReadingFails, WritingFails, most_ahead};
 ghost use Rattle.app_process.specs.Process.{EndsRun, EndsWords, IsAfterCommand, NamesNoFile};
 
 use crate::asked_input::{Given, status_of_asked};
 use crate::file_inputs::status_on_files;
+use crate::files::{Open, ProcessFiles};
 use crate::saying::{Say, StandardError};
 use crate::terminals::Terminals;
 use crate::usage::report_usage;
 use app_command_line::{Sight, Usage, command_of, fault_with, next_file};
-use std::io::{Read, Write};
+use json_lines::{Sink, Source};
 use std::rt::{Env, Files};
 use std::sync::Wait;
 use std::thread::Threads;
@@ -36,7 +38,10 @@ where
         Ok(words) => {
             let reader = rt.reader();
             let words = words.as_slice();
-            let (_, _, status) = status_of_words(rt, terminals, words, reader, writer, errors);
+            let files = ProcessFiles::of(rt);
+            let (_, _, status) = status_of_words(
+                rt, &files, terminals, words, reader, writer, errors,
+            );
             status
         }
         Err(usage) => report_usage(rt, &mut writer, &mut errors, usage),
@@ -55,26 +60,26 @@ where
 #[tactic(auto, using(crate::proofs::AskedLaws::run_on_files, crate::proofs::AskedLaws::run_on_input))]
 pub fn status_of_words<
     'w,
-    P: Env + Files + Threads + Wait + Sync + AllocGlobal + Input + Eprint + Clock,
-    R: Read + Drop + Send,
-    W: Write + Drop + Send,
+    P: Env + Files + Threads + Wait + Sync + AllocGlobal + Eprint + Clock,
+    F: Open,
+    R: Source + Drop + Send,
+    W: Sink + Drop + Send,
     E: Say + Drop + Send,
 >(
     rt: &'w P,
+    files: &'w F,
     terminals: Terminals,
     words: &'w [String],
     reader: R,
     writer: W,
     errors: E,
 ) -> (W, E, u8)
-where
-    P::Reader: Send,
-    P::File: Send,
-    ensures { EndsRun (map string_bytes words.now) terminals (R.remaining reader)
+    ensures { EndsRun (F.opens files.now) (F.lacks files.now) (ReadingFails most_ahead F.File.called) (ReadingFails 0 R.called)
+        (WritingFails W.called) (map string_bytes words.now) terminals (R.remaining reader)
         (W.contents writer) (W.contents result.0) (E.said errors) (E.said result.1) result.2 }
 {
     match words_with_files(words) {
-        Some(further) => status_on_files(rt, terminals, words, further, writer, errors),
+        Some(further) => status_on_files(rt, files, terminals, words, further, writer, errors),
         None => status_on_input(rt, terminals, words, reader, writer, errors),
     }
 }
@@ -100,8 +105,8 @@ fn words_with_files<'w>(words: &'w [String]) -> Option<&'w [String]>
 fn status_on_input<
     'w,
     P: Env + Files + Threads + Wait + Sync + AllocGlobal + Eprint + Clock,
-    R: Read + Drop + Send,
-    W: Write + Drop + Send,
+    R: Source + Drop + Send,
+    W: Sink + Drop + Send,
     E: Say + Drop + Send,
 >(
     rt: &'w P,
@@ -111,7 +116,7 @@ fn status_on_input<
     writer: W,
     errors: E,
 ) -> (W, E, u8)
-    ensures { EndsWords (map string_bytes words.now) terminals (R.remaining reader)
+    ensures { EndsWords (ReadingFails 0 R.called) (WritingFails W.called) (map string_bytes words.now) terminals (R.remaining reader)
         (W.contents writer) (W.contents result.0) (E.said errors) (E.said result.1) result.2 }
 {
     match command_of(rt.alloc(), words, Sight::Unseen) {

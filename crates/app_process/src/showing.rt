@@ -1,6 +1,7 @@
 //! Work whose progress is shown.
 
 ghost use Rattle.std.specs.Option.{option_copied};
+ghost use Rattle.app_process.specs.Faults.{ReadingFails, WritingFails};
 ghost use Rattle.app_process.specs.Process.{EndsAsked};
 
 use crate::asked_input::{Given, status_said};
@@ -8,7 +9,7 @@ use crate::progress::Progress;
 use crate::progress_view::ProgressView;
 use crate::saying::Say;
 use app_orders::{Asked, LogOrder, Order, Task};
-use std::io::{Read, Write};
+use json_lines::{Sink, Source};
 use std::rt::{Env, Files};
 use std::sync::Wait;
 use std::thread::Threads;
@@ -43,8 +44,8 @@ pub(crate) fn view_of<'a, P: Files>(
 /// and the exit status.
 pub(crate) fn status_shown<
     P: Env + Files + Threads + Wait + Sync + AllocGlobal + Eprint + Clock,
-    R: Read + Drop + Send,
-    W: Write + Drop + Send,
+    R: Source + Drop + Send,
+    W: Sink + Drop + Send,
     E: Say + Drop + Send,
 >(
     given: &Given<'_, P>,
@@ -54,8 +55,9 @@ pub(crate) fn status_shown<
     errors: E,
     asked: &Asked,
 ) -> (W, E, u8)
-    ensures { EndsAsked (option_copied given.now.place.label) given.now.place.is_terminal given.now.terminals.output
-        asked.now (R.remaining reader) (W.contents writer) (W.contents result.0) (E.said errors) (E.said result.1) result.2 }
+    ensures { EndsAsked (ReadingFails 0 R.called) (WritingFails W.called) (option_copied given.now.place.label) given.now.place.is_terminal
+        given.now.terminals.output asked.now
+        (R.remaining reader) (W.contents writer) (W.contents result.0) (E.said errors) (E.said result.1) result.2 }
 {
     let rt = given.place.rt;
     let progress = Progress::of(rt, view);
@@ -65,8 +67,10 @@ pub(crate) fn status_shown<
         rt,
         || progress.watch(rt),
         || -> (W, E, u8)
-            ensures { EndsAsked (option_copied seen.entry.place.label) seen.entry.place.is_terminal seen.entry.terminals.output
-                asked.entry.now (R.remaining reader) (W.contents writer) (W.contents result.0) (E.said errors) (E.said result.1) result.2 }
+            ensures { EndsAsked (ReadingFails 0 R.called) (WritingFails W.called)
+                (option_copied seen.entry.place.label) seen.entry.place.is_terminal
+                seen.entry.terminals.output asked.entry.now
+                (R.remaining reader) (W.contents writer) (W.contents result.0) (E.said errors) (E.said result.1) result.2 }
         {
             let ended = status_said(&seen, reader, writer, errors, asked);
             progress.end(rt);

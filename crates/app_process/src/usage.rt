@@ -1,6 +1,7 @@
 //! What comes of words that ask for nothing.
 
 ghost use Rattle.std.specs.Prelude.{string_bytes};
+ghost use Rattle.app_process.specs.Faults.{WritingFails};
 ghost use Rattle.app_process.specs.Usages.{EndsUsage, ShowsHelp};
 
 use crate::build_record::with_gate;
@@ -9,20 +10,21 @@ use crate::reporting::report;
 use crate::saying::Say;
 use app_command_line::Usage;
 use app_engine::RunError;
-use std::io::Write;
+use json_lines::{Sink, write_whole};
 use std::rt::Files;
 use std::sync::Wait;
 
 pub(crate) const USAGE_STATUS: u8 = 2;
 
 /// Writes help, or says what is wrong with words that ask for nothing, and returns the exit status.
-pub(crate) fn report_usage<P: Files + AllocGlobal + Eprint + Wait, W: Write, E: Say>(
+pub(crate) fn report_usage<P: Files + AllocGlobal + Eprint + Wait, W: Sink, E: Say>(
     rt: &P,
     writer: &mut W,
     errors: &mut E,
     usage: Usage,
 ) -> u8
-    ensures { EndsUsage usage (W.contents writer.old) (W.contents writer.new) (E.said errors.old) (E.said errors.new) result }
+    ensures { EndsUsage (WritingFails W.called) usage (W.contents writer.old) (W.contents writer.new)
+        (E.said errors.old) (E.said errors.new) result }
 {
     match usage {
         Usage::Help(text) => show_help(rt, writer, errors, text),
@@ -35,16 +37,18 @@ pub(crate) fn report_usage<P: Files + AllocGlobal + Eprint + Wait, W: Write, E: 
 }
 
 // Writes the help or the version, and after the version whether the gate passed for this build.
-fn show_help<P: Files + AllocGlobal + Eprint + Wait, W: Write, E: Say>(
+#[tactic(auto, using(crate::proofs::FaultLaws::fails_to_take))]
+fn show_help<P: Files + AllocGlobal + Eprint + Wait, W: Sink, E: Say>(
     rt: &P,
     writer: &mut W,
     errors: &mut E,
     text: String,
 ) -> u8
-    ensures { ShowsHelp (string_bytes text) (W.contents writer.old) (W.contents writer.new) (E.said errors.old) (E.said errors.new) result }
+    ensures { ShowsHelp (WritingFails W.called) (string_bytes text) (W.contents writer.old) (W.contents writer.new)
+        (E.said errors.old) (E.said errors.new) result }
 {
     let text = with_gate(rt, text);
-    match writer.write_all(text.as_bytes()) {
+    match write_whole(writer, text.as_bytes()) {
         Ok(()) => 0,
         Err(_) => report(&Place::plain(rt), errors, &RunError::WriteFault),
     }

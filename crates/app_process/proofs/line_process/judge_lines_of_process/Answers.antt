@@ -8,5 +8,5 @@ pub returns : goal.returns
 returns g c =
     let judged = c.judge_noticed-reader in
     ends_lines (option_copied c.args.place.now.label) c.args.judging _ _ _ _ _ _ _ judged.result.2 _ _ judged.ensures.answered
-    judged.ensures.faulted judged.ensures.error judged.ensures.noticed c.of-reader.ensures.noticed
-    (ap g.R.Read.remaining c.of-reader.ensures.reader) c.say_outcome-status.ensures
+    judged.ensures.faulted judged.ensures.error judged.ensures.blamed judged.ensures.noticed c.of-reader.ensures.noticed
+    (ap g.R.Source.remaining c.of-reader.ensures.reader) c.say_outcome-status.ensures

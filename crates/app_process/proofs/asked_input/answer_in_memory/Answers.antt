@@ -1,0 +1,13 @@
+-- Nothing is promised of a writer that is a list.
+use Rattle.std.specs.Prelude.{⊤, refl}
+use Rattle.std.proofs.Common.{Some, ap}
+use Rattle.std.specs.Option.{option_copied}
+use Rattle.app_process.specs.Faults.{ReadingFails}
+use Rattle.app_process.proofs.FaultLaws.{by_writer}
+use Rattle.app_process.proofs.asked_input.answer_in_memory.Goals as goal
+
+pub returns : goal.returns
+returns g c =
+    by_writer (ReadingFails 0 g.R.Source.called) _ ⊤ (option_copied c.args.given.now.place.label) c.args.given.now.place.is_terminal
+    c.args.asked.now.task c.args.asked.now.manner (g.R.Source.remaining c.args.reader) _ _ _ _ _ _ _ (λ fails. tt) (ap Some c.new-answer.ensures.items) refl
+    c.answer_by.ensures
