@@ -2,6 +2,7 @@
 
 ghost use Rattle.std.specs.Prelude.{◌≡◌};
 
+use app_logs::reads_left_out;
 use judge_memory::{LongEntry, LongHistory};
 use judge_reader::read_long;
 use log_events::{ClientCall, Ending, EventLog};
@@ -112,18 +113,20 @@ impl RunCounts {
     }
 }
 
-/// The counts of the run that a log records. The bytes are those of a log that was read before.
-pub(crate) fn counts_of_log(alloc: Global, bytes: &[u8]) -> Option<RunCounts> {
+/// The counts of the run that a log records. The bytes are those of a log that was read before. It was judged in the order of time where it
+/// was judged while it was read (`is_watched`), or says that it stands in it.
+pub(crate) fn counts_of_log(alloc: Global, bytes: &[u8], is_watched: bool) -> Option<RunCounts> {
     let mut reader = EventReader::new(alloc).ok()?;
     let mut source = bytes;
     let outcome = reader.read(&mut source, u32::MAX);
     if outcome.is_err() {
         return None;
     }
-    counted_log(alloc, reader.log()).ok()
+    let in_time = is_watched || reader.is_in_time();
+    counted_log(alloc, reader.log(), in_time).ok()
 }
 
-fn counted_log(alloc: Global, log: &EventLog) -> Result<RunCounts, AllocError> {
+fn counted_log(alloc: Global, log: &EventLog, in_time: bool) -> Result<RunCounts, AllocError> {
     let mut counts = RunCounts::nothing(alloc);
     counts.clients = log.clients() as u64;
     for call in log.calls() {
@@ -134,9 +137,7 @@ fn counted_log(alloc: Global, log: &EventLog) -> Result<RunCounts, AllocError> {
         }
         counts.add_ending(call.ending());
     }
-    for (_, reads) in log.left_out(alloc)?.as_slice() {
-        counts.idle_reads = counts.idle_reads.saturating_add(*reads as u64);
-    }
+    counts.idle_reads = reads_left_out(alloc, log, in_time)?;
     Ok(counts)
 }
 

@@ -61,6 +61,7 @@ pub(crate) fn status_of_log<
             status_counted(
                 place,
                 errors,
+                order,
                 manner,
                 source.kept(),
                 followed.outcome.status(),
@@ -75,6 +76,7 @@ pub(crate) fn status_of_log<
 fn status_counted<P: AllocGlobal + Eprint + Wait, E: Say>(
     place: &Place<'_, P>,
     errors: &mut E,
+    order: LogOrder,
     manner: &Manner,
     kept: Option<&[u8]>,
     status: u8,
@@ -86,7 +88,7 @@ fn status_counted<P: AllocGlobal + Eprint + Wait, E: Say>(
         return status;
     }
     let counts = match kept {
-        Some(bytes) => counts_of_log(place.rt.alloc(), bytes),
+        Some(bytes) => counts_of_log(place.rt.alloc(), bytes, is_watched(order)),
         None => None,
     };
     status_by_counts(place, errors, manner, counts, status)
