@@ -59,7 +59,7 @@ class Logged(NamedTuple):
     session: int
     key: int
     begin: Event
-    end: Event | None = None
+    end: Event | None
 
     @property
     def ending(self) -> str:
@@ -118,7 +118,7 @@ class Origins:
         for call in calls_of(self._path):
             places = self._places_of(call, indices[call.session])
             indices[call.session] += len(places) > 0
-            found |= {place: call.operation() for place in places if place in wanted}
+            found.update((place, call.operation()) for place in places if place in wanted)
         return found
 
     def _places_of(self, call: Logged, index: int) -> list[Place]:
@@ -134,7 +134,7 @@ def calls_of(path: str | os.PathLike[str]) -> Iterator[Logged]:
     """The calls of a log that has been judged: those that ended in the order of their ends, and then those that did not."""
     clients: dict[Name, int] = {}
     keys: dict[Name, int] = {}
-    begun: dict[Name, Logged] = {}
+    begun: dict[Name, tuple[int, int, int, int, Event]] = {}
     with open(path, "rb") as stream:
         events = ((line, event) for line, event in read_log(stream) if event[0] != "order")
         for place, (line, event) in enumerate(events):
@@ -142,11 +142,11 @@ def calls_of(path: str | os.PathLike[str]) -> Iterator[Logged]:
                 case ["start", key, _]:
                     keys.setdefault(key, len(keys))
                 case ["begin", client, [_, key, *_], *_]:
-                    numbers = clients.setdefault(client, len(clients)), keys.setdefault(key, len(keys))
-                    begun[client] = Logged(line, place, *numbers, event)
+                    begun[client] = line, place, clients.setdefault(client, len(clients)), keys.setdefault(key, len(keys)), event
                 case [_, client, *_]:
-                    yield begun.pop(client)._replace(end=event)
-    yield from begun.values()
+                    yield Logged(*begun.pop(client), event)
+    for parts in begun.values():
+        yield Logged(*parts, None)
 
 
 def answered_reads(path: str | os.PathLike[str], enough: int) -> int:
