@@ -74,12 +74,11 @@ class Logged(NamedTuple):
     @property
     def trait(self) -> int | None:
         """The trait of the operation that stands for it in its client's session, if one does; None where none may."""
-        word, ending = self.begin[2][0], self.ending
-        if ending == "fail" or (ending == "lost" and word == "r"):
+        if self.ending == "fail":
             return None
-        if ending == "lost":
+        if self.ending == "lost":
             return _mark_of(self.place)
-        return _nothing_at(2 * self.key) if word == "r" and ending == "end" and self.found is None else 0
+        return _nothing_at(2 * self.key) if self.begin[2][0] == "r" and self.end and self.found is None else 0
 
     def operation(self) -> Operation:
         """What it says."""
@@ -94,8 +93,8 @@ class Origins:
     eight bytes for each operation, and reads the log each time that it is asked.
 
     Each operation has a trait: that of the mark of a lost call says which call it is, and that of a read that found nothing its key. All
-    others have the trait 0. A call is in the history where the next operation of its client has its trait. So of several reads in a row
-    that found nothing at one key, of which the history keeps some, it takes the first.
+    others have the trait 0. A call is in the history where the next operation of its client has its trait: a lost read never is. So of
+    several reads in a row that found nothing at one key, of which the history keeps some, it takes the first.
     """
 
     def __init__(

@@ -133,13 +133,15 @@ class Listed(FolderCase):
         return found
 
     def test_changed_meanwhile(self):
-        """A client more, whose call ends, or the same call twice."""
+        """After one of the runs of the program the log has a client more, a call more, or another end in as many bytes."""
         program, write, read = self.folder / "program", call("a", ["w", "x", 1]), call("a", ["r", "x"], answer=None)
-        for word, more in itertools.product(("explain", "events"), (call("new", ["r", "x"]), read)):
-            with self.subTest(word=word, more=more):
-                write_log(self.log, [*write, *read])
-                appended = f"[ $1 != {word} ] || printf %s {shlex.quote(text_of(more))} >> {shlex.quote(str(self.log))}"
-                program.write_text(f'#!/bin/sh\n{shlex.quote(find_program())} "$@"\n{appended}\n')
+        log, failed = text_of([*write, *read]), text_of([*write, read[0], ["fail", "a"]])
+        changed = log + text_of(call("new", ["r", "x"])), log + text_of(read), failed.ljust(len(log))
+        for word, text in itertools.product(("explain", "events"), changed):
+            with self.subTest(word=word, text=text):
+                self.log.write_text(log)
+                change = f"[ $1 != {word} ] || printf %s {shlex.quote(text)} > {shlex.quote(str(self.log))}"
+                program.write_text(f'#!/bin/sh\n{shlex.quote(find_program())} "$@"\n{change}\n')
                 program.chmod(0o755)
                 with self.assertRaisesRegex(RuntimeError, "run.jsonl changed while its faults were listed"):
                     faults(self.log, program=program)
