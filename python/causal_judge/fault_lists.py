@@ -24,8 +24,9 @@ class FaultsUnknown(ValueError):
 class Fault:
     """A read that shows a fault, and of which kind.
 
-    `ThinAirRead`: nobody wrote what it returned. `WriteCORead`: `source` wrote it, and `missed` is a write or a delete after that, which
-    the read missed. `WriteCOInitRead`: it returned what the key held at the start, and missed `missed`.
+    `ThinAirRead`: nobody wrote what it returned. `WriteCORead`: `source` wrote it, or is the delete that a read saw which found nothing;
+    and `missed` is a write or a delete after that, which the read missed. `WriteCOInitRead`: it returned what the key held at the start,
+    and missed `missed`.
     """
 
     kind: str
@@ -34,7 +35,7 @@ class Fault:
     missed: Operation | None = None
 
     def __str__(self) -> str:
-        source = f" (written by line {self.source.line})" if self.source else ""
+        source = f" ({'deleted' if self.source.word == 'd' else 'written'} by line {self.source.line})" if self.source else ""
         missed = f", which missed {self.missed}" if self.missed else ""
         return f"{self.kind}: {self.read}{source}{missed}"
 
@@ -71,23 +72,26 @@ class Faults:
 def faults(log: Log, most: int = 10_000, *, program: str | os.PathLike[str] | None = None, timeout: float | None = None) -> Faults:
     """The reads of a log that show a fault, of which it lists so many at most. The log has to stay as it is meanwhile.
 
+    Where there are some, the program runs twice, and each run may take `timeout` seconds.
+
     Raises FaultsUnknown where a value is written twice, ValueError where `most` is not from 1 to 1,000,000, RuntimeError where the log
     changed meanwhile, and what `judge` raises.
     """
     if most not in MOST:
         raise ValueError(f"most is from 1 to {MOST[-1]:,}, not {most}")
-    path = path_of(log)
+    path, asked = path_of(log), find_program(program)
     size = os.stat(path).st_size
-    said = run_program(find_program(program), [*EXPLAIN, "--all", str(most), "--json"], path, timeout)
+    said = run_program(asked, [*EXPLAIN, "--all", str(most), "--json"], path, timeout)
     explained, found = json.loads(said)
     if found is None:
         raise FaultsUnknown(f"{path}: a value is written twice, so no read can be said to be at fault: write every value new")
     counts, by_session, listed, *_ = found
-    origins = Origins(path)
-    operations = origins.operations({place for row in listed for place in _places_of(row)})
-    if os.stat(path).st_size != size:
+    firsts = {(session, 0) for session, *_ in by_session}
+    wanted = firsts | {place for row in listed for place in _places_of(row)}
+    operations = Origins(path, program=asked, timeout=timeout).operations(wanted) if wanted else {}
+    if os.stat(path).st_size != size or len(operations) < len(wanted):
         raise RuntimeError(f"{path} changed while its faults were listed")
-    by_client = {origins.clients[session]: _counts_of(row) for session, row, *_ in by_session}
+    by_client = {operations[session, 0].client: _counts_of(row) for session, row, *_ in by_session}
     return Faults(tuple(map(_line_of, explained)), _counts_of(counts), by_client, tuple(_fault_of(row, operations) for row in listed))
 
 

@@ -1,16 +1,23 @@
-"""The calls of a log, and which of them each operation of its history is, by the rules of docs/events.md."""
+"""The calls of a log, and which of them each operation of its history is, as docs/events.md numbers these."""
 
 from __future__ import annotations
 
 import json
 import os
+import pathlib
+from array import array
 from collections import Counter
 from collections.abc import Collection, Iterator
 from dataclasses import dataclass, field
-from typing import NamedTuple, TypeAlias
+from typing import Any, NamedTuple, TypeAlias
 
 from causal_judge.events import Event, Name, Progress, Value, read_log
 from causal_judge.notes import note_of
+from causal_judge.program import find_program, run_program
+
+EVENTS = ["events"]
+HISTORY = '["memory",['
+"""How the history of a log begins: its sessions are next."""
 
 Place: TypeAlias = tuple[int, int]
 """A session of the history, and the index of an operation in it."""
@@ -44,23 +51,15 @@ class Operation:
 
 
 class Logged(NamedTuple):
-    """A call as a log has it: the number of the line of its begin, its begin, and its end where there is one."""
+    """A call as a log has it: the number of the line of its begin, and its place among the events, from 0; the numbers of its client and
+    its key, by which the history names them; its begin, and its end where there is one."""
 
     line: int
+    place: int
+    session: int
+    key: int
     begin: Event
     end: Event | None
-
-    @property
-    def client(self) -> Name:
-        """The client that called."""
-        client: Name = self.begin[1]
-        return client
-
-    @property
-    def asked(self) -> tuple[str, Name, object]:
-        """The word, the key, and what a write writes: 1 and true apart."""
-        word, key, *value = self.begin[2]
-        return word, key, _told(value[0]) if value else None
 
     @property
     def ending(self) -> str:
@@ -72,72 +71,81 @@ class Logged(NamedTuple):
         """What a read found."""
         return self.end[2] if self.end and self.ending == "end" else None
 
+    @property
+    def trait(self) -> int | None:
+        """The trait of the operation that stands for it in its client's session, if one does; None where none may."""
+        if self.ending == "fail":
+            return None
+        if self.ending == "lost":
+            return _mark_of(self.place)
+        return _nothing_at(2 * self.key) if self.begin[2][0] == "r" and self.end and self.found is None else 0
+
     def operation(self) -> Operation:
         """What it says."""
-        word, key, *value = self.begin[2]
-        notes = (note_of(event) for event in (self.begin, self.end) if event)
+        (_, client, (word, key, *value), *_), events = self.begin, (self.begin, self.end)
+        notes = (note_of(event) for event in events if event)
         held = self.found if word == "r" else value[0] if value else None
-        return Operation(self.line, self.client, word, key, held, tuple(note for note in notes if note is not None))
+        return Operation(self.line, client, word, key, held, tuple(note for note in notes if note is not None))
 
 
 class Origins:
-    """Finds the calls of operations in a log that has been judged. It reads the log twice, and keeps what reads returned."""
+    """Finds the calls that the operations of the history of a log stand for. It has the program write the history, of which it keeps
+    eight bytes for each operation, and reads the log each time that it is asked.
 
-    def __init__(self, path: str | os.PathLike[str]) -> None:
-        self._path = path
-        firsts: dict[Name, int] = {}
-        lost: dict[int, tuple[Name, object]] = {}
-        returned: set[tuple[Name, object]] = set()
-        self._deleted: set[Name] = set()
-        for call in calls_of(path):
-            firsts.setdefault(call.client, call.line)
-            word, key, value = call.asked
-            if word == "d" and call.ending != "fail":
-                self._deleted.add(key)
-            elif word == "w" and call.ending == "lost":
-                lost[call.line] = key, value
-            elif word == "r" and call.found is not None:
-                returned.add((key, _told(call.found)))
-        self.clients = sorted(firsts, key=lambda client: firsts[client])
-        self._sessions = {client: number for number, client in enumerate(self.clients)}
-        read = sorted(line for line, written in lost.items() if written in returned)
-        self._forks = {line: number for number, line in enumerate(read, len(firsts))}
+    Each operation has a trait: that of the mark of a lost call says which call it is, and that of a read that found nothing its key. All
+    others have the trait 0. A call is in the history where the next operation of its client has its trait: a lost read never is. So of
+    several reads in a row that found nothing at one key, of which the history keeps some, it takes the first.
+    """
+
+    def __init__(
+        self, path: str | os.PathLike[str], *, program: str | os.PathLike[str] | None = None, timeout: float | None = None
+    ) -> None:
+        """Raises what `judge` raises."""
+        self._path = pathlib.Path(path)
+        self._traits: list[array[int]] = []
+        self._forks: dict[int, int] = {}
+        for session in _sessions_of(run_program(find_program(program), EVENTS, self._path, timeout)):
+            traits = array("Q", (_trait_of(*operation) for operation in session))
+            if traits and traits[0] % 2 and session[0][0] == "r":
+                self._forks[traits[0]] = len(self._traits)
+            self._traits.append(traits)
 
     def operations(self, wanted: Collection[Place]) -> dict[Place, Operation]:
-        """The calls of the operations at these places, as far as the log has them."""
-        counts: Counter[Name] = Counter()
+        """The calls of the operations at these places, as far as the history and the log have them."""
+        indices: Counter[int] = Counter()
         found: dict[Place, Operation] = {}
         for call in calls_of(self._path):
-            places = list(self._places_of(call, counts[call.client]))
-            counts[call.client] += len(places) > 0
-            found |= {place: call.operation() for place in places if place in wanted}
+            places = self._places_of(call, indices[call.session])
+            indices[call.session] += len(places) > 0
+            found.update((place, call.operation()) for place in places if place in wanted)
         return found
 
-    def _places_of(self, call: Logged, index: int) -> Iterator[Place]:
-        """The operations that stand for a call, of which the first has this index in its client's session."""
-        fork = self._forks.get(call.line)
-        if fork is not None:
-            yield from ((self._sessions[call.client], index), (fork, 0), (fork, 1))
-        elif call.ending not in ("fail", "lost") and not self._asks_nothing(call):
-            yield self._sessions[call.client], index
-
-    def _asks_nothing(self, call: Logged) -> bool:
-        """Whether it is a read that found nothing, and some delete of its key did not fail."""
-        word, key, _ = call.asked
-        return word == "r" and call.ending == "end" and call.found is None and key in self._deleted
+    def _places_of(self, call: Logged, index: int) -> list[Place]:
+        """The operations that stand for a call, where this is the index of the next operation of its client."""
+        traits = self._traits[call.session] if call.session < len(self._traits) else ()
+        if index >= len(traits) or traits[index] != call.trait:
+            return []
+        fork = self._forks.get(traits[index])
+        return [(call.session, index), *([] if fork is None else [(fork, 0), (fork, 1)])]
 
 
 def calls_of(path: str | os.PathLike[str]) -> Iterator[Logged]:
     """The calls of a log that has been judged: those that ended in the order of their ends, and then those that did not."""
-    begun: dict[Name, tuple[int, Event]] = {}
+    clients: dict[Name, int] = {}
+    keys: dict[Name, int] = {}
+    begun: dict[Name, tuple[int, int, int, int, Event]] = {}
     with open(path, "rb") as stream:
-        for line, event in read_log(stream):
-            if event[0] == "begin":
-                begun[event[1]] = line, event
-            elif event[0] != "start":
-                yield Logged(*begun.pop(event[1]), event)
-    for line, event in begun.values():
-        yield Logged(line, event, None)
+        events = ((line, event) for line, event in read_log(stream) if event[0] != "order")
+        for place, (line, event) in enumerate(events):
+            match event:
+                case ["start", key, _]:
+                    keys.setdefault(key, len(keys))
+                case ["begin", client, [_, key, *_], *_]:
+                    begun[client] = line, place, clients.setdefault(client, len(clients)), keys.setdefault(key, len(keys)), event
+                case [_, client, *_]:
+                    yield Logged(*begun.pop(client), event)
+    for parts in begun.values():
+        yield Logged(*parts, None)
 
 
 def answered_reads(path: str | os.PathLike[str], enough: int) -> int:
@@ -157,6 +165,28 @@ def named(name: Name, kind: str) -> str:
     return json.dumps(name, ensure_ascii=False) if isinstance(name, str) else f"{kind} {name}"
 
 
-def _told(value: object) -> object:
-    """A value that is the same as another one only where it is so in a log, where 1 is not true."""
-    return isinstance(value, bool), value
+def _mark_of(place: int) -> int:
+    """The variable of the mark of a lost call that began at a place, which is the trait of the mark."""
+    return 2 * place + 1
+
+
+def _nothing_at(variable: int) -> int:
+    """The trait of a read of a variable that found nothing."""
+    return variable + 2
+
+
+def _trait_of(word: str, variable: int, value: int | str, *_: str) -> int:
+    """The trait of an operation. A read that found nothing returns 0 or what a delete wrote, which is even."""
+    if variable % 2:
+        return variable
+    return _nothing_at(variable) if word == "r" and isinstance(value, int) and value % 2 == 0 else 0
+
+
+def _sessions_of(history: str) -> Iterator[list[list[Any]]]:
+    """The sessions of a history as `events` writes it, of which it reads one at a time."""
+    if not history.startswith(HISTORY):
+        raise RuntimeError(f"this is no history that this package knows: {history[:80]!r}")
+    decoder, place = json.JSONDecoder(), len(HISTORY)
+    while history[place] != "]":
+        session, place = decoder.raw_decode(history, place + (history[place] == ","))
+        yield session
