@@ -132,10 +132,11 @@ def calls_of(path: str | os.PathLike[str]) -> Iterator[Logged]:
     begun: dict[Name, tuple[int, Event]] = {}
     with open(path, "rb") as stream:
         for line, event in read_log(stream):
-            if event[0] == "begin":
-                begun[event[1]] = line, event
-            elif event[0] != "start":
-                yield Logged(*begun.pop(event[1]), event)
+            match event:
+                case ["begin", client, *_]:
+                    begun[client] = line, event
+                case ["end" | "fail" | "lost", client, *_]:
+                    yield Logged(*begun.pop(client), event)
     for line, event in begun.values():
         yield Logged(line, event, None)
 

@@ -7,7 +7,7 @@ import random
 import sys
 import unittest
 
-from causal_judge.events import LogError, LogReader, Progress, check_event, check_name, check_value, is_same, line_of, read_log
+from causal_judge.events import ORDER, LogError, LogReader, Progress, check_event, check_name, check_value, is_same, line_of, read_log
 from support import NAMES, NO_NAMES, NO_VALUES, REPOSITORY, VALUES, many
 
 PLAIN = REPOSITORY / "tests" / "plain"
@@ -47,8 +47,14 @@ class Forms(unittest.TestCase):
             check_event(["begin", key, ["d", key]])
         check_event(["end", "a", None])
 
+    def test_order_of_time(self):
+        check_event(["order", "time"])
+        for wrong in (["order"], ["order", "Time"], ["order", "lines"], ["order", None], ["order", "time", None], ["order", ["time"]], ["time"]):
+            with self.subTest(event=wrong), self.assertRaisesRegex(ValueError, "is no event"):
+                check_event(wrong)
+
     def test_notes(self):
-        """All but a start may have one element more, whatever it is. Their calls have none more."""
+        """What begins and ends a call may have one element more, whatever it is. Calls have none more."""
         for note in (None, 0, "n1", 1.5, [], {"server": "n1", "at": [17.25]}, "ok"):
             begins = ["begin", "a", ["w", "k", 1]], ["begin", "a", ["r", "k"]], ["begin", "a", ["d", "k"]]
             for event in (*begins, ["end", "a", 1], ["fail", "a"]):
@@ -162,6 +168,10 @@ class WhatIsPending(unittest.TestCase):
             ([["begin", "a", ["r", "k"]]], ["start", "k", 1], "after a begin"),
             ([["start", "k", 1]], ["start", "k", 1], "has a start already"),
             ([["begin", 1, ["r", "k"]]], ["end", "1", None], "no call pending"),
+            ([ORDER], ORDER, "said after an event, or twice"),
+            ([["start", "k", 1]], ORDER, "said after an event, or twice"),
+            ([["begin", "a", ["r", "k"]]], ORDER, "said after an event, or twice"),
+            ([["begin", "a", ["r", "k"]], ["end", "a", None]], ORDER, "said after an event, or twice"),
         )
         for events, event, due in cases:
             progress = Progress()
@@ -169,6 +179,16 @@ class WhatIsPending(unittest.TestCase):
                 self.assertEqual(progress.fault_of(one), "")
                 progress.take(one)
             self.assertIn(due, progress.fault_of(event))
+
+    def test_order_of_time(self):
+        for first in ([], [ORDER]):
+            progress = Progress()
+            self.assertTrue(progress.is_empty)
+            for event in (*first, ["start", "k", 1], ["begin", "a", ["r", "k"]]):
+                self.assertEqual(progress.fault_of(event), "")
+                progress.take(event)
+                self.assertFalse(progress.is_empty)
+            self.assertEqual(progress.is_timed, bool(first))
 
     def test_taken(self):
         progress = Progress()

@@ -100,7 +100,7 @@ class Listed(FolderCase):
         with Recorder(self.log) as recorder, recorder.client("a") as alice:
             alice.write("k", 1, lambda: None)
             alice.read("k", lambda: None)
-            due = Fault("WriteCOInitRead", Operation(3, "a", "r", "k"), None, Operation(1, "a", "w", "k", 1))
+            due = Fault("WriteCOInitRead", Operation(4, "a", "r", "k"), None, Operation(2, "a", "w", "k", 1))
             self.assertEqual(faults(recorder).listed, (due,))
 
     def test_lines_are_those_of_the_words(self):
