@@ -49,7 +49,7 @@ class Forms(unittest.TestCase):
 
     def test_order_of_time(self):
         check_event(["order", "time"])
-        for wrong in (["order"], ["order", "Time"], ["order", "lines"], ["order", None], ["order", "time", None], ["order", ["time"]], ["time"]):
+        for wrong in (["order"], ["order", "Time"], ["order", "lines"], ["order", None], ["order", "time", None], ["order", ["time"]]):
             with self.subTest(event=wrong), self.assertRaisesRegex(ValueError, "is no event"):
                 check_event(wrong)
 

@@ -2,26 +2,16 @@
 
 import json
 import random
-import re
-import sys
 import unittest
 
 from causal_judge import Fault, Faults, FaultsUnknown, Line, Operation, Recorder, faults
-from causal_judge.operations import Origins, answered_reads
+from causal_judge.events import ORDER
+from causal_judge.operations import answered_reads, clients_of, operations_of
 from causal_judge.program import find_program, run_program
 from causal_judge.verdicts import EXPLAIN
-from support import REPOSITORY, FolderCase, many, needs_program, write_log
+from support import FolderCase, events_of, many, needs_program, write_log
 
-REPOSITORY_TESTS = REPOSITORY / "tests"
-if REPOSITORY_TESTS.is_dir():
-    sys.path.insert(0, str(REPOSITORY_TESTS))
-    import folders  # noqa: F401
-    import plain_events
-    import random_logs
-
-SAID = re.compile(r"  line (\d+): .*: (\w+)(?:, breaks [a-z ]+)?")
-OTHERS = re.compile(r"\((?:written by line (\d+)|its initial value)\), after line (\d+)")
-needs_repository = unittest.skipUnless(REPOSITORY_TESTS.is_dir(), "skipped: the repository's tests are not beside the package")
+EVENTS, NAMES, LISTS = ["events"], ["events", "--names"], [*EXPLAIN, "--all", "50", "--json"]
 KINDS = ("ThinAirRead", "WriteCOInitRead", "WriteCORead")
 
 
@@ -103,52 +93,50 @@ class Listed(FolderCase):
             due = Fault("WriteCOInitRead", Operation(4, "a", "r", "k"), None, Operation(2, "a", "w", "k", 1))
             self.assertEqual(faults(recorder).listed, (due,))
 
-    def test_lines_are_those_of_the_words(self):
-        """Of random logs: each fault names the lines that `explain --all` names."""
-        rng, listed = random.Random(83), 0
-        for _ in range(many(10, 400)):
-            log = write_log(self.log, faulty(rng))
+    def test_places(self):
+        """Of random logs: each fault names the calls of the operations that `explain --all --json` names by their places in the history."""
+        rng, listed, nothing = random.Random(83), 0, 0
+        for run in range(many(30, 400)):
+            log = write_log(self.log, [ORDER] * (run % 2) + list(faulty(rng)))
+            history, names, said = (json.loads(run_program(find_program(), words, log, None)) for words in (EVENTS, NAMES, LISTS))
             found = faults(log, 50)
-            due = [(int(line), kind, *others_in(text)) for text, line, kind in said_of(log)]
-            self.assertEqual([(fault.read.line, fault.kind, *others_of(fault)) for fault in found], due)
-            listed += len(due)
-        self.assertGreater(listed, 10)
+            due = [[row[0], *(shown(log, history, names, place) for place in row[1:4] if isinstance(place, list))] for row in said[1][2]]
+            named = [[fault.kind, *(told(one) for one in (fault.read, fault.source, fault.missed) if one)] for fault in found]
+            self.assertEqual(named, due, log.read_text())
+            listed, nothing = listed + len(due), nothing + sum(fault.read.value is None for fault in found)
+        self.assertGreater(min(listed, nothing), 10)
 
+    def test_what_texts_and_notes_say(self):
+        """They may look like the words of the program, in quotes that never end there."""
+        odd = '" (written by line 8), after line 9 wrote "x" to it: WriteCORead'
+        noted = {"note": f'line 5: {odd}{"x" * 300}'}
+        write, other = call(odd, ["w", odd, "line 7: y"], notes=(noted, odd)), call(odd, ["w", odd, "\\" * 300], notes=(noted, noted))
+        reads = [call(client, ["r", odd], answer="line 7: y", notes=(noted, 1)) for client in ("line 1", odd)]
+        found = faults(write_log(self.log, [*write, *reads[0], *other, *reads[1]]))
+        (fault,) = found
+        self.assertEqual((fault.kind, fault.read.line, fault.source.line, fault.missed.line), ("WriteCORead", 7, 1, 5))
+        self.assertEqual((fault.read.notes, fault.source.notes), ((noted, 1), (noted, odd)))
+        self.log.write_text("\n \n" + self.log.read_text().replace("\n", "\n\n"))
+        self.assertEqual([one.line for one in (faults(self.log).listed[0].read, faults(self.log).listed[0].missed)], [15, 11])
 
 class Calls(FolderCase):
     """Needs no program."""
 
-    @needs_repository
-    def test_origins(self):
-        """Of random logs: the call of each operation is the one that a plain reading of docs/events.md gives it."""
-        rng, forks, left_out = random.Random(11), 0, 0
-        for _ in range(many(150, 3000)):
-            log = write_log(self.log, log_of(rng))
-            found = plain_events.read_log(log.read_bytes())
-            run = plain_events.Run(found.events)
-            due = {(s, i): one for s, session in enumerate(run.origins) for i, (_, one) in enumerate(session)}
-            operations = Origins(log).operations({*due, (0, 10**6), (10**6, 0)})
-            lines = {place: found.lines[one.place] for place, one in due.items()}
-            self.assertEqual({place: operation.line for place, operation in operations.items()}, lines)
-            for place, operation in operations.items():
-                clients, keys, _ = plain_events.names_of(found)
-                one = due[place]
-                self.assertEqual((operation.client, operation.key, operation.word), (clients[one.client], keys[one.key], one.word))
-            forks, left_out = forks + len(run.forks), left_out + len(run.left_out)
-        self.assertGreater(min(forks, left_out), 10)
-
-    def test_notes(self):
+    def test_operations(self):
+        """They are found by the lines of their begins, with their notes. A call without an end has one too."""
         write, read = call("a", ["w", "k", 1], notes=({"server": "n1"}, [2])), call("a", ["r", "k"], answer=1, notes=(None, "n2"))
-        write_log(self.log, [*write, *read])
-        found = Origins(self.log).operations([(0, 0), (0, 1)])
-        self.assertEqual([found[0, index].notes for index in (0, 1)], [({"server": "n1"}, [2]), ("n2",)])
+        write_log(self.log, [ORDER, *write, *read, ["begin", "b", ["d", "k"]]])
+        found = operations_of(self.log, {2, 4, 6, 5, 70})
+        due = {2: Operation(2, "a", "w", "k", 1), 4: Operation(4, "a", "r", "k", 1), 6: Operation(6, "b", "d", "k")}
+        self.assertEqual(found, due)
+        self.assertEqual([found[line].notes for line in (2, 4, 6)], [({"server": "n1"}, [2]), ("n2",), ()])
 
-    def test_same_value(self):
-        """1 is not true: the lost write of 1 was not read."""
-        for answer, places in ((True, [(1, 0)]), (1, [(0, 0), (1, 0), (2, 0), (2, 1)])):
-            write_log(self.log, [*call("a", ["w", "k", 1], "lost"), *call("b", ["r", "k"], answer=answer)])
-            found = Origins(self.log).operations([(session, index) for session in range(3) for index in range(2)])
-            self.assertEqual(sorted(found), places)
+    def test_clients(self):
+        """They are in the order of their first begins, whatever ended first."""
+        begins = [["begin", client, ["r", "k"]] for client in ("b", 1, "a", "1")]
+        ends = [["end", client, None] for client in ("a", 1)]
+        write_log(self.log, [ORDER, ["start", "k", 1], *begins, *ends, ["begin", "a", ["r", "k"]]])
+        self.assertEqual(clients_of(self.log), ["b", 1, "a", "1"])
 
     def test_answered_reads(self):
         self.assertEqual(answered_reads(write_log(self.log, RUN), 100), 6)
@@ -158,14 +146,6 @@ class Calls(FolderCase):
         self.assertEqual(answered_reads(write_log(self.log, open_read), 1), 0)
         self.log.write_bytes(b'["begin","a",["r","k"]]\n["end","a"')
         self.assertEqual(answered_reads(self.log, 1), 0)
-
-
-def log_of(rng):
-    """The events of a random log that is not refused."""
-    while True:
-        events = random_logs.events_of(rng)
-        if not plain_events.read_log("".join(f"{json.dumps(event)}\n" for event in events).encode()).refusal:
-            return events
 
 
 def faulty(rng):
@@ -179,20 +159,18 @@ def faulty(rng):
         yield from call(client, asked, rng.choice(("end", "end", "end", "lost", "fail")), rng.choice(values[key]) if word == "r" else "ok")
 
 
-def said_of(log):
-    """The lines of `explain --all` that list a fault, each with the line of the log and the kind."""
-    words = run_program(find_program(), [*EXPLAIN, "--all", "50"], log, None)
-    return [(line, *found.groups()) for line in words.splitlines() if (found := SAID.fullmatch(line)) and found[2] in KINDS]
+def shown(log, history, names, place):
+    """The client, the word, the key and the value of an operation of the history of a log. A fork begins with the mark of its write."""
+    (clients, keys, values), (session, index) = names, place
+    word, variable, value, *_ = history[1][session][index]
+    client = clients[session] if session < len(clients) else events_of(log)[history[1][session][0][1] // 2][1]
+    held = None if value % 2 == 0 else values[value // 2]
+    return client, "d" if word == "w" and held is None else word, keys[variable // 2], held
 
 
-def others_in(text):
-    """The lines of the source and of the missed write that a text names."""
-    found = OTHERS.search(text)
-    return tuple(int(line) if line else None for line in found.groups()) if found else (None, None)
-
-
-def others_of(fault):
-    return tuple(other.line if other else None for other in (fault.source, fault.missed))
+def told(operation):
+    """The same of an operation that a fault names."""
+    return operation.client, operation.word, operation.key, operation.value
 
 
 if __name__ == "__main__":

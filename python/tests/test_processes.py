@@ -72,7 +72,7 @@ class KilledProcesses(ProcessCase):
             self.assertTrue(verdict.meets(), f"{verdict.log}: {verdict}")
 
     def check_logs(self, killed, logs):
-        """A log goes on where it was cut, after a line for each call that was pending. It says the order of time in its first line alone."""
+        """A log goes on where it was cut, after a line for each call that was pending. Its first line alone says the order of time."""
         most_pending = 0
         for cut, whole in zip(killed, logs):
             events, first = events_of(whole), cut.read_bytes()

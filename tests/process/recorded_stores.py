@@ -73,8 +73,8 @@ class Kind(NamedTuple):
 
 
 class Recipe(NamedTuple):
-    """How clients record: a retry as a write of its own, and for which keys a read that finds nothing is left out of a history; or as a log,
-    which may say that it is in the order of time."""
+    """How clients record: a retry as a write of its own, and for which keys a read that finds nothing is left out of a history; or as a
+    log, which may say that it is in the order of time."""
 
     is_retry_of_its_own: bool
     left_out: tuple = ()
@@ -402,7 +402,7 @@ SITUATIONS = (
     Situation("deletes that leave a tombstone", lambda user, key: delete(user, key, 1.0, 0.05), "done", "failed"),
     Situation("deletes that may leave a tombstone", lambda user, key: delete(user, key, 0.5, 0.1), "lost", "failed"),
     Situation("deletes that leave nothing", lambda user, key: delete(user, key, 0.0, 0.2), "failed"),
-    Situation("a file for each client", lambda user, key: delete(user, key, 1.0, 0.2), "done", "done, in the order of time", is_joined=True),
+    Situation("a file for each client", lambda user, key: delete(user, key, 1.0, 0.2), "done", "done in the order of time", is_joined=True),
 )
 
 
@@ -457,8 +457,8 @@ def faults(seed, lines):
 
 
 def blamed_run(program, runs, heads):
-    """The first of these runs, of one kind of store, of which something promised is no yes where the log begins with one of these lines; none
-    where there is none. A run is its seed and its log."""
+    """The first of these runs, of one kind of store, of which something promised is no yes where the log begins with one of these heads;
+    none where there is none. A run is its seed and its log."""
     seed = runs[0][0]
 
     def is_met(some):

@@ -28,8 +28,8 @@ class Pending(NamedTuple):
 
 
 def read_porcupine(stream: TextIO, left_out: Counter[str]) -> Iterator[Event]:
-    """The events of a Porcupine history, in the order of its lines. For Porcupine that is the order of time, and so the log says. Nothing is
-    left out.
+    """The events of a Porcupine history, in the order of its lines. For Porcupine that is the order of time, and so the log says. Nothing
+    is left out.
 
     It keeps what is pending, the names of the clients, and the ids of the calls that never returned. Raises FormatError at a line that is no
     event of the key-value model, at an append, and at an event that does not fit those before it.
