@@ -147,12 +147,13 @@ class Reading(unittest.TestCase):
         import plain_events
 
         rng, refused = random.Random(52), 0
+        knows_order = plain_events.read_log(line_of(ORDER)).refusal is None
         for _ in range(many(3_000, 100_000)):
-            data = mangled_log(rng)
+            data = mangled_log(rng, 0.3 if knows_order else 0)
             due = plain_events.read_log(data)
             line, events, is_torn = outcome_of(data)
             self.assertEqual((line, is_torn), (due.refusal[1] if due.refusal else None, due.is_torn), data)
-            self.assertEqual(events, len(due.events), data)
+            self.assertEqual(events, sum(event[0] != "order" for event in due.events), data)
             refused += line is not None
         self.assertGreater(refused, 100)
 
@@ -199,14 +200,14 @@ class WhatIsPending(unittest.TestCase):
 
 
 def outcome_of(data):
-    """The line at fault, if any, how many events came before it, and whether the last line is torn."""
+    """The line at fault, if any, how many events came before it but for that of the order of time, and whether the last line is torn."""
     reader, progress, events = LogReader(io.BytesIO(data)), Progress(), 0
     try:
         for number, event in reader:
             if progress.fault_of(event):
                 return number, events, False
             progress.take(event)
-            events += 1
+            events += event != ORDER
     except LogError as error:
         return error.line, events, False
     return None, events, reader.is_torn
@@ -219,9 +220,12 @@ FORMS = (
 PUT_IN = (b"", b"\n", b'"', b"]", b"[", b"-0", b"1.5", b"1e400", b"\xc3", b" ", b"\\u00e9", b"null", b"\\ud800")
 
 
-def mangled_log(rng):
-    """A short log of two clients, most of them with some bytes changed, left out or added."""
-    data = bytearray(b"".join(json.dumps(rng.choice(FORMS)).encode() + b"\n" for _ in range(rng.randint(0, 6))))
+def mangled_log(rng, timed):
+    """A short log of two clients, most of them with some bytes changed, left out or added. This share says the order of time somewhere."""
+    events = [rng.choice(FORMS) for _ in range(rng.randint(0, 6))]
+    if rng.random() < timed:
+        events.insert(rng.choice((0, 0, 0, rng.randint(0, len(events)))), ORDER)
+    data = bytearray(b"".join(json.dumps(event).encode() + b"\n" for event in events))
     for _ in range(rng.choice((0, 0, 1, 1, 2))):
         at = rng.randint(0, len(data))
         data[at : at + rng.randint(0, 2)] = rng.choice(PUT_IN)
