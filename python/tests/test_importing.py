@@ -8,7 +8,7 @@ import unittest
 
 from causal_judge import Refused, judge
 from causal_judge.importers import ABOUT, FORMATS
-from support import ORDER_LINE, PACKAGE, FolderCase, needs_program, run_python
+from support import ORDER_LINE, FolderCase, needs_program, run_python
 
 WHOLE = "w(x,1) r(y,2)\nw(y,2) r(x,1)\n"
 ENTRIES = "{:process 0 :type :invoke :f :read} {:process 0 :type :ok :f :read :value 7}"
@@ -65,15 +65,13 @@ class Importing(FolderCase):
         self.assertEqual(done.stdout.splitlines()[-1], b'"the history was refused, and this is a part of it"')
 
     def test_help(self):
-        """It names each format, what it is and where it comes from, as README.md does, and fits a terminal of 80 columns."""
+        """It names each format, what it is and where it comes from, and fits a terminal of 80 columns."""
         self.assertEqual(list(ABOUT), list(FORMATS))
         helps = (run_python("-m", "causal_judge", *words, "--help", COLUMNS="80") for words in ((), ("merge",), ("import",)))
         texts = [done.stdout.decode() for done in helps]
-        page = (PACKAGE / "README.md").read_text(encoding="utf-8").replace("`", "")
         for name, (what, source) in ABOUT.items():
             self.assertRegex(texts[2], rf"\n  {name} +{re.escape(what)}\n +{re.escape(source)}\n")
             self.assertIn(name, texts[0])
-            self.assertIn(f"| {name} | {what} | {source} |", page)
         for text in texts:
             self.assertLessEqual(max(map(len, text.splitlines())), 80, text)
 
