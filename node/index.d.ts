@@ -51,7 +51,7 @@ export interface RetryOptions extends CallOptions {
  * Where calls were made before they are recorded, that is not so: take the line out.
  *
  * Throws LogInUse where another recorder of this package writes the log, LogError where the log has a bad line, TypeError where the path is
- * no ordinary file, and what `fs.openSync` throws.
+ * no ordinary file, and what `fs.openSync` and `fs.writeSync` throw.
  */
 export class Recorder {
     constructor(path: string | URL, options?: RecorderOptions);

@@ -40,7 +40,7 @@ class Recorder:
     read returned. It is not asked about None, which is nothing.
 
     Raises BlockingIOError where another recorder writes the log, LogError where the log has a bad line, ValueError where the path is no
-    ordinary file, and OSError as `open` does.
+    ordinary file, and OSError as `open` does, or where the first line can't be written.
     """
 
     def __init__(
