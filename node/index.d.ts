@@ -47,10 +47,11 @@ export interface RetryOptions extends CallOptions {
 
 /**
  * Appends events to a log as they happen, each by one write. A log that is there already goes on: a torn last line is cut, and each call
- * that is pending is recorded as lost.
+ * that is pending is recorded as lost. A log without events gets the first line ["order","time"]: its lines stand in the order of time.
+ * Where calls were made before they are recorded, that is not so: take the line out.
  *
  * Throws LogInUse where another recorder of this package writes the log, LogError where the log has a bad line, TypeError where the path is
- * no ordinary file, and what `fs.openSync` throws.
+ * no ordinary file, and what `fs.openSync` and `fs.writeSync` throw.
  */
 export class Recorder {
     constructor(path: string | URL, options?: RecorderOptions);

@@ -32,7 +32,9 @@ import java.util.function.Supplier;
  * </pre>
  *
  * Any number of threads share a recorder. Each event is one line that is appended at once, so a crash of the test loses at most the line
- * that was being written. Each run has a log of its own.
+ * that was being written. Each run has a log of its own. Its first line, {@code ["order","time"]}, says that its lines stand in the order
+ * of time: a begin is written before the call is made, and an end after it was answered. Where calls were made before they are recorded,
+ * that is not so: take the line out.
  */
 public final class Recorder implements Closeable {
     private static final int MOST_LINE = 1_000_000, MOST_DEPTH = 50;
@@ -60,6 +62,12 @@ public final class Recorder implements Closeable {
     public Recorder(Path log, Predicate<? super Throwable> fails) throws IOException {
         this.file = FileChannel.open(log, StandardOpenOption.CREATE_NEW, StandardOpenOption.WRITE);
         this.fails = fails;
+        try {
+            append("[\"order\",\"time\"]");
+        } catch (UncheckedIOException error) {
+            file.close();
+            throw error.getCause();
+        }
     }
 
     /** The key holds this value before the first call. */

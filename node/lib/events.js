@@ -7,9 +7,17 @@ import { Fraction, encode, shown } from "./json.js";
 
 export const MOST_LINE = 1_000_000;
 
+const LATE_ORDER = 'the order of time is said after an event, or twice: ["order","time"] is the first event of a log';
+
 const MOST_NAME = 2n ** 64n - 1n;
 const LEAST_VALUE = -(2n ** 63n);
-const LENGTHS = { start: [3, 3], begin: [3, 4], end: [3, 4], fail: [2, 3], lost: [2, 3] };
+const LENGTHS = { order: [2, 2], start: [3, 3], begin: [3, 4], end: [3, 4], fail: [2, 3], lost: [2, 3] };
+
+/**
+ * The first event of a log whose lines stand in the order of time: each begin was appended before the call was made, and each end after its
+ * answer came, to this one file.
+ */
+export const ORDER = ["order", "time"];
 
 const isWhole = (it) => typeof it === "bigint" || Number.isSafeInteger(it);
 
@@ -49,7 +57,9 @@ export function checkEvent(event) {
     const [word, name, more] = Array.isArray(event) ? event : [];
     const [least, most] = (typeof word === "string" && Object.hasOwn(LENGTHS, word) && LENGTHS[word]) || [1, 0];
     const isCall = word !== "begin" || (Array.isArray(more) && more.length === { w: 3, r: 2, d: 2 }[more[0]]);
-    if (!Array.isArray(event) || event.length < least || event.length > most || !isCall) throw new TypeError(`${shown(event)} is no event`);
+    const isOrder = word !== ORDER[0] || name === ORDER[1];
+    if (!Array.isArray(event) || event.length < least || event.length > most || !isCall || !isOrder)
+        throw new TypeError(`${shown(event)} is no event`);
     checkName(name);
     if (word === "begin") checkName(more[1]);
     if (word === "begin" && more[0] === "w") checkValue(more[2]);
@@ -74,16 +84,26 @@ export function nextName(name, isTaken) {
     for (let count = found ? Number(found[2]) + 1 : 2; ; count++) if (!isTaken(`${stem}#${count}`)) return `${stem}#${count}`;
 }
 
-/** What the events so far left open: the clients with a pending call, with its word, and the keys that were started. */
+/**
+ * What the events so far left open: the clients with a pending call, with its word, and the keys that were started. `isTimed` is whether
+ * the log says that its lines stand in the order of time.
+ */
 export class Progress {
     constructor() {
         this.pending = new Map();
         this.started = new Map();
         this.hasBegun = false;
+        this.isTimed = false;
+    }
+
+    /** Whether there was no event. */
+    get isEmpty() {
+        return !this.hasBegun && !this.isTimed && !this.started.size;
     }
 
     /** Why an event may not come next; an empty text where it may. */
     faultOf([word, name, more]) {
+        if (word === "order") return this.isEmpty ? "" : LATE_ORDER;
         const key = keyOf(name);
         if (word === "start") {
             if (this.hasBegun) return `the start of ${shown(name)} comes after a begin`;
@@ -102,7 +122,8 @@ export class Progress {
 
     /** Takes in an event that may come next. */
     take([word, name, more]) {
-        if (word === "start") this.started.set(keyOf(name), more);
+        if (word === "order") this.isTimed = true;
+        else if (word === "start") this.started.set(keyOf(name), more);
         else if (word === "begin") {
             this.pending.set(keyOf(name), { name, word: more[0] });
             this.hasBegun = true;

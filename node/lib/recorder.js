@@ -4,7 +4,7 @@ import { fileURLToPath } from "node:url";
 
 import { Rules } from "./calls.js";
 import { Client } from "./clients.js";
-import { Progress, checkEvent, keyOf, lineOf, nextName } from "./events.js";
+import { ORDER, Progress, checkEvent, keyOf, lineOf, nextName } from "./events.js";
 import { shown } from "./json.js";
 import { LogFile } from "./log_file.js";
 import { LogError } from "./log_reader.js";
@@ -15,7 +15,9 @@ const LIKE_A_NUMBER = /^'*[0-9]+$/;
 /**
  * Appends events to a log as they happen, each by one write, so that a crash of the process loses at most the line being written.
  *
- * A log that is there already goes on: a torn last line is cut, and each call that is pending is recorded as lost.
+ * A log that is there already goes on: a torn last line is cut, and each call that is pending is recorded as lost. The first line of one
+ * that has no event yet will be ["order","time"]: its lines stand in the order of time, since a begin is written before the call is made,
+ * and an end after it was answered. Where calls were made before they are recorded, that is not so: take the line out.
  */
 export class Recorder {
     #file;
@@ -105,7 +107,7 @@ export class Recorder {
         return this.#calls.get(keyOf(name));
     }
 
-    // Takes in the events of the log, and records each call that is pending after them as lost.
+    // Takes in the events of the log, and records each call that is pending after them as lost. One without events begins here.
     #goOn() {
         for (const [number, event] of this.#file.events()) {
             const fault = this.#progress.faultOf(event);
@@ -115,6 +117,7 @@ export class Recorder {
             if (event[0] === "begin") this.#names.add(keyOf(event[1]));
         }
         for (const { name } of [...this.#progress.pending.values()]) this.#appendLost(name);
+        if (this.#progress.isEmpty) this.#append(ORDER, lineOf(ORDER));
     }
 
     // Takes note of a value that newValue may have given, so that it is not given again.

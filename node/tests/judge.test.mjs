@@ -7,7 +7,7 @@ import test from "node:test";
 import { pathToFileURL } from "node:url";
 
 import { Recorder, Refused, assertMet, explain, judge } from "causal-judge";
-import { EXAMPLES, HEALTHY, LOST_WRITE, PROGRAM, first, inner, linesOf, ranNatively, room } from "./support.mjs";
+import { EXAMPLES, HEALTHY, LOST_WRITE, ORDER_LINE, PROGRAM, first, inner, linesOf, ranNatively, room } from "./support.mjs";
 
 const { formOf } = await inner("form.js");
 const FORMS = { words: [], json: ["--json"], picture: ["--svg"], page: ["--html"] };
@@ -64,6 +64,7 @@ test("the form of an input", () => {
         ["", "history"],
         ['[ \t\r\n["start"', "log"],
         ['["begin","a",', "log"],
+        [ORDER_LINE, "log"],
         ['["beginning"', "history"],
         ['"memory"', "long"],
         ['[["memory",[', "long"],
@@ -120,7 +121,7 @@ test("an assertion on a log that does not", (t) => {
         () => assertMet(recorder, ["cc", "cm"], { page: place("deep/run.html") }),
         (error) => {
             assert.equal(error.name, "AssertionError");
-            assert.match(error.message, /^cc no WriteCOInitRead\n {2}line 1: "alice" writes "v1" to "x"\n/);
+            assert.match(error.message, /^cc no WriteCOInitRead\n {2}line 2: "alice" writes "v1" to "x"\n/);
             assert.ok(error.message.endsWith(`run.jsonl does not meet cc, cm.\nThe page ${place("deep/run.html")} shows it.`));
             assert.equal(error.actual.split("\n").length, 3);
             assert.equal(error.expected, "cc yes\ncm yes");
@@ -135,6 +136,15 @@ test("an assertion on a log that is not known to meet it", (t) => {
     const written = '["begin",1,["w",0,1]]\n["end",1,"ok"]\n';
     fs.writeFileSync(file, `${written}${written}["begin",1,["r",0]]\n["end",1,null]\n`);
     assert.throws(() => assertMet(file, ["cc"]), /is not known to meet cc\.$/);
+});
+
+test("an assertion on a log that doesn't say the order of time", (t) => {
+    const file = room(t)();
+    for (const log of [HEALTHY, ORDER_LINE + HEALTHY, `\n${ORDER_LINE}${HEALTHY}`]) {
+        fs.writeFileSync(file, log);
+        assert.equal(assertMet(file, ["cc"], { atLeastReads: 1 }).meets(), true);
+        assert.throws(() => assertMet(file, ["cc"], { atLeastReads: 2 }), /: 1 read was answered, and atLeastReads is 2:/);
+    }
 });
 
 test("an assertion on a log with too few reads", (t) => {

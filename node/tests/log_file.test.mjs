@@ -6,7 +6,7 @@ import fs from "node:fs";
 import test from "node:test";
 
 import { LogInUse, Recorder } from "causal-judge";
-import { linesOf, room } from "./support.mjs";
+import { ORDER_LINE, linesOf, room } from "./support.mjs";
 
 const HOLDS = `
 import { Recorder } from "causal-judge";
@@ -73,6 +73,24 @@ test("a log is an ordinary file", (t) => {
     assert.throws(() => new Recorder(place("")), { code: "EISDIR" });
     assert.throws(() => new Recorder(place("none/run.jsonl")), { code: "ENOENT" });
     assert.deepEqual(fs.readdirSync(place("")), []);
+});
+
+test("a log whose first line can't be written stays empty", (t) => {
+    const file = room(t)();
+    const { writeSync } = fs;
+    const fault = Object.assign(new Error("no room"), { code: "ENOSPC" });
+    t.after(() => (fs.writeSync = writeSync));
+    fs.writeSync = (fd, line, ...from) => {
+        if (String(line) !== ORDER_LINE) return writeSync(fd, line, ...from);
+        if (from[0]) throw fault;
+        return writeSync(fd, line, 0, 5);
+    };
+    assert.throws(() => new Recorder(file), fault);
+    fs.writeSync = writeSync;
+    assert.equal(fs.readFileSync(file, "utf8"), "");
+    assert.equal(fs.existsSync(`${file}.lock`), false);
+    new Recorder(file).close();
+    assert.equal(fs.readFileSync(file, "utf8"), ORDER_LINE);
 });
 
 test("a line that can't be written is cut, and its call is lost", (t) => {

@@ -5,7 +5,7 @@ import fs from "node:fs";
 import test from "node:test";
 
 import { LogError, Recorder } from "causal-judge";
-import { linesOf, room } from "./support.mjs";
+import { ORDER_LINE, linesOf, room } from "./support.mjs";
 
 class Refusal extends Error {}
 const W = ["begin", "alice", ["w", "x", "v"]];
@@ -170,6 +170,43 @@ test("a log whose last line lacks its line feed goes on", (t) => {
     assert.equal(fs.readFileSync(file, "utf8"), `${JSON.stringify(W)}\n${JSON.stringify(OK)}\n`);
 });
 
+test("a log that a recorder begins says that it is in the order of time", (t) => {
+    const file = room(t)();
+    const recorded = (before) => {
+        fs.writeFileSync(file, before);
+        const recorder = new Recorder(file, { start: { x: 1 } });
+        recorder.client("alice").beginRead("x");
+        recorder.close();
+        return fs.readFileSync(file, "utf8");
+    };
+    const written = `["start","x",1]\n${JSON.stringify(R)}\n`;
+    for (const [before, blanks] of [["", ""], ["\n \n", "\n \n"], [" \t", " \t\n"], ['\n["sta', "\n"]])
+        assert.equal(recorded(before), blanks + ORDER_LINE + written);
+    for (let cut = 0; cut <= ORDER_LINE.length; cut++) assert.equal(recorded(ORDER_LINE.slice(0, cut)), ORDER_LINE + written);
+});
+
+test("a log that goes on says what it said of the order of time", (t) => {
+    const file = room(t)();
+    const firsts = [JSON.stringify(W), '["start","x",1]', `${JSON.stringify(W)}\n["los`, ORDER_LINE.trim(), `\n${ORDER_LINE}["e`];
+    for (const first of firsts) {
+        fs.writeFileSync(file, first);
+        for (let times = 0; times < 3; times++) {
+            const recorder = new Recorder(file);
+            recorder.client("bob").read("x", () => null);
+            recorder.close();
+            assert.equal(fs.readFileSync(file, "utf8").split(ORDER_LINE).length, first.includes("order") ? 2 : 1);
+        }
+    }
+});
+
+test("a log of nothing is in the order of time", (t) => {
+    const file = room(t)();
+    for (let times = 0; times < 2; times++) {
+        new Recorder(file).close();
+        assert.equal(fs.readFileSync(file, "utf8"), ORDER_LINE);
+    }
+});
+
 test("a bad log is left as it is", (t) => {
     const file = room(t)();
     for (const [text, line] of [
@@ -183,6 +220,12 @@ test("a bad log is left as it is", (t) => {
         [`["begin","\\ud800",["r","x"]]\n`, 1],
         [`["begin","alice",["r","x"],"\\ud800"]\n`, 1],
         [`["start","x",1]\n["start","x",1]\n`, 2],
+        [ORDER_LINE + ORDER_LINE, 2],
+        [`${JSON.stringify(W)}\n${ORDER_LINE}`, 2],
+        [`["start","x",1]\n${ORDER_LINE}`, 2],
+        ['["order"]\n', 1],
+        ['["order","lines"]\n', 1],
+        ['["order","time",1]\n', 1],
         [`["begin","alice",["w","x","${"v".repeat(1_000_000)}"]]\n`, 1],
         [`["begin","alice",["w","x","${"v".repeat(1_000_000)}"]]`, 1],
     ]) {
@@ -205,7 +248,8 @@ test("whole numbers of 64 bits", (t) => {
     recorder.close();
     assert.equal(
         fs.readFileSync(file, "utf8"),
-        `["begin",18446744073709551615,["w",0,-9223372036854775808]]
+        `["order","time"]
+["begin",18446744073709551615,["w",0,-9223372036854775808]]
 ["end",18446744073709551615,"ok"]
 ["begin",18446744073709551615,["r",9007199254740992]]
 ["end",18446744073709551615,18446744073709551615]

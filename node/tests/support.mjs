@@ -1,4 +1,4 @@
-// What the tests share: the package as it is installed beside them, a folder for each test, and the lines of a log.
+// What the tests share: the package as it is installed beside them, a folder for each test, and the events of a log.
 
 import fs from "node:fs";
 import os from "node:os";
@@ -23,9 +23,14 @@ export function room(t) {
     return (name = "run.jsonl") => path.join(folder, name);
 }
 
+/** The first line of a log that a recorder began. */
+export const ORDER_LINE = '["order","time"]\n';
+
+/** The events of a log, but for that of the order of time. */
 export const linesOf = (file) =>
     fs
         .readFileSync(file, "utf8")
+        .replace(ORDER_LINE, "")
         .split("\n")
         .filter((line) => line)
         .map((line) => JSON.parse(line));

@@ -60,7 +60,8 @@ MERGING = """Joins the logs of several processes, each with clients of its own.
 
 A torn end of a file is dropped, and each call that is pending there is recorded
 as lost. The order of the files is no order of time: judge the joined log as a
-whole, without --every.
+whole, without --every. So the first line of a recorder, ["order","time"], is
+left out, unless there is one file alone.
 """
 IMPORTING = """Writes the log of a recording that another tool made.
 
@@ -72,8 +73,10 @@ The formats, and where such a recording comes from:
 
 What is left out is counted on standard error. Where a recording is refused, the
 last line written is no event: so no part of it is judged. Judge the log as a
-whole, without --every. docs/importers.md says what each form becomes, and why
-that blames no correct store.
+whole, without --every. A log of jepsen or porcupine begins with the line
+["order","time"], as these are in the order of time; a start comes after it.
+docs/importers.md says what each form becomes, and why that blames no correct
+store.
 """
 
 

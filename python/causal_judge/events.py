@@ -1,7 +1,7 @@
 """The form of an event, one line of a log: which names and values there are, the text of a line, and how a log is read.
 
 docs/events.md of the repository has the whole form. An event is here the list that its JSON is, as `["begin", "alice", ["w", "k", "v1"]]`.
-All but a `start` may have one element more, which is a note: any JSON, as the server that was asked.
+A `begin` and what ends a call may have one element more, which is a note: any JSON, as the server that was asked.
 """
 
 from __future__ import annotations
@@ -21,7 +21,11 @@ NAMES = range(2**64)
 VALUES = range(-(2**63), 2**64)
 MOST_LINE = 1_000_000
 BLANKS = b" \t\r\n"
+ORDER: Event = ["order", "time"]
+"""The first event of a log whose lines stand in the order of time: each begin was appended before the call was sent, and each end after its
+answer came, to this one file."""
 NUMBERED = re.compile(r"(.*)#([1-9][0-9]{0,17})", re.DOTALL)
+LATE_ORDER = 'the order of time is said after an event, or twice: ["order","time"] is the first event of a log'
 
 
 class LogError(ValueError):
@@ -85,7 +89,7 @@ def check_event(event: object) -> None:
         case ["end", _, answer] | ["end", _, answer, _]:
             if answer is not None:
                 check_value(answer)
-        case ["fail" | "lost", _] | ["fail" | "lost", _, _]:
+        case ["fail" | "lost", _] | ["fail" | "lost", _, _] | ["order", "time"]:
             pass
         case _:
             raise ValueError(f"{_shown(event)} is no event")
@@ -140,16 +144,26 @@ class LogReader:
 
 
 class Progress:
-    """What the events so far left open: the clients with a pending call, with its word, and the keys that were started."""
+    """What the events so far left open: the clients with a pending call, with its word, and the keys that were started.
+
+    `is_timed` is whether the log says that its lines stand in the order of time.
+    """
 
     def __init__(self) -> None:
         self.pending: dict[Name, str] = {}
         self.started: dict[Name, Value] = {}
-        self.has_begun = False
+        self.has_begun = self.is_timed = False
+
+    @property
+    def is_empty(self) -> bool:
+        """Whether there was no event."""
+        return not (self.has_begun or self.is_timed or self.started)
 
     def fault_of(self, event: Event) -> str:
         """Why an event may not come next; an empty text where it may."""
         match event:
+            case ["order", *_]:
+                return "" if self.is_empty else LATE_ORDER
             case ["start", key, _]:
                 if self.has_begun:
                     return f"the start of {_shown(key)} comes after a begin"
@@ -166,6 +180,8 @@ class Progress:
     def take(self, event: Event) -> None:
         """Takes in an event that may come next."""
         match event:
+            case ["order", *_]:
+                self.is_timed = True
             case ["start", key, value]:
                 self.started[key] = value
             case ["begin", client, call, *_]:

@@ -7,9 +7,10 @@ from collections.abc import Iterable
 from dataclasses import dataclass
 from typing import BinaryIO
 
-from causal_judge.events import Event, LogError, LogReader, Name, Progress, Value, is_same, line_of
+from causal_judge.events import ORDER, Event, LogError, LogReader, Name, Progress, Value, is_same, line_of
 
 PIECE = 1 << 20
+AT_THE_HEAD = ("order", "start")
 
 
 @dataclass(frozen=True)
@@ -33,12 +34,15 @@ def merge(paths: Iterable[str | os.PathLike[str]], out: BinaryIO) -> MergeCounts
 
     `out` is a buffered stream, as `open(path, "wb")` gives.
     All files are read before anything is written, and are then copied up to where they were read: it keeps no events. The order of the
-    files is no order of time, so the joined log is for `judge` without `--every`.
+    files is no order of time, so the joined log is for `judge` without `--every`, and `["order","time"]`, by which a file says that its own
+    lines stand in that order, is left out. Of one file alone it stays.
 
     Raises ValueError where a client is in two files, or a key has two different starts; LogError where a file has a bad line; OSError.
     """
     run = _Run()
     parts = [run.read(os.fspath(path)) for path in paths]
+    if len(parts) == 1 and parts[0].is_timed:
+        out.write(line_of(ORDER))
     for key, value in run.started.items():
         out.write(line_of(["start", key, value]))
     for part in parts:
@@ -49,13 +53,17 @@ def merge(paths: Iterable[str | os.PathLike[str]], out: BinaryIO) -> MergeCounts
 
 @dataclass(frozen=True)
 class _Part:
-    """The part of a file after its starts: from which byte up to which one, and the clients that have a call pending at its end."""
+    """The part of a file after its starts: from which byte up to which one, and the clients that have a call pending at its end.
+
+    `is_timed` is whether the file says that its lines stand in the order of time.
+    """
 
     path: str
     begin: int
     end: int
     lacks_feed: bool
     is_torn: bool
+    is_timed: bool
     pending: list[Name]
 
     def copy(self, out: BinaryIO) -> None:
@@ -90,13 +98,14 @@ class _Run:
             reader = LogReader(stream)
             try:
                 for number, event in reader:
-                    if event[0] != "start" and begin is None:
+                    if event[0] not in AT_THE_HEAD and begin is None:
                         begin = reader.size
                     self._take(number, event, progress)
             except LogError as error:
                 raise LogError(error.line, error.what, path) from None
         end = reader.size
-        return _Part(path, end if begin is None else begin, end, reader.lacks_feed, reader.is_torn, list(progress.pending))
+        begin = end if begin is None else begin
+        return _Part(path, begin, end, reader.lacks_feed, reader.is_torn, progress.is_timed, list(progress.pending))
 
     def _take(self, number: int, event: Event, progress: Progress) -> None:
         """Takes in an event of the last file, where it may come next there and fits the other files."""
@@ -106,6 +115,7 @@ class _Run:
         progress.take(event)
         if event[0] == "start":
             self._take_start(event)
+        if event[0] in AT_THE_HEAD:
             return
         self.events += 1
         file = self.files.setdefault(event[1], len(self.paths) - 1)

@@ -18,7 +18,7 @@ from types import TracebackType
 
 from causal_judge.calls import Answers, Call, Fails, Rules
 from causal_judge.clients import AsyncClient, Client
-from causal_judge.events import Event, LogError, Name, Progress, Value, check_event, is_same, line_of, next_name
+from causal_judge.events import ORDER, Event, LogError, Name, Progress, Value, check_event, is_same, line_of, next_name
 from causal_judge.log_file import LogFile
 
 NUMBERED = re.compile(r"(.*)\.([1-9][0-9]{0,17})", re.DOTALL)
@@ -28,7 +28,9 @@ LIKE_A_NUMBER = re.compile(r"'*[0-9]+")
 class Recorder:
     """Appends events to a log as they happen, each by one write, so that a crash of the process loses at most the line being written.
 
-    A log that is there already goes on: a torn last line is cut, and each call that is pending is recorded as lost.
+    A log that is there already goes on: a torn last line is cut, and each call that is pending is recorded as lost. The first line of one
+    that has no event yet will be `["order","time"]`: its lines stand in the order of time, since a begin is written before the call is
+    made, and an end after it was answered. Where calls were made before they are recorded, that is not so: take the line out.
 
     `start` has the values that keys hold before the first call, as the method `start` says. `fails` says which exceptions of a call mean
     that it had no effect for certain: a class, several, or a function of the exception. Every other one means that the call is lost, so
@@ -38,7 +40,7 @@ class Recorder:
     read returned. It is not asked about None, which is nothing.
 
     Raises BlockingIOError where another recorder writes the log, LogError where the log has a bad line, ValueError where the path is no
-    ordinary file, and OSError as `open` does.
+    ordinary file, and OSError as `open` does, or where the first line can't be written.
     """
 
     def __init__(
@@ -159,7 +161,7 @@ class Recorder:
             return self._calls.get(name)
 
     def _go_on(self) -> None:
-        """Takes in the events of the log, and records each call that is pending after them as lost."""
+        """Takes in the events of the log, and records each call that is pending after them as lost. One without events begins here."""
         for number, event in self._file.events():
             fault = self._progress.fault_of(event)
             if fault:
@@ -170,6 +172,8 @@ class Recorder:
                 self._names.add(event[1])
         for name in list(self._progress.pending):
             self._append_lost(name)
+        if self._progress.is_empty:
+            self._append(ORDER, line_of(ORDER))
 
     def _note_value(self, event: Event) -> None:
         """Takes note of a value that new_value may have given, so that it is not given again."""

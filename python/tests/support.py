@@ -10,7 +10,7 @@ import unittest
 from concurrent.futures import ThreadPoolExecutor
 
 from causal_judge import ProgramMissing, Recorder, judge
-from causal_judge.events import LogReader, Progress
+from causal_judge.events import ORDER, LogReader, Progress, line_of
 from causal_judge.program import find_program
 
 TESTS = pathlib.Path(__file__).resolve().parent
@@ -20,6 +20,8 @@ DEBIAN_PYTHON = "/usr/bin/python3"
 IS_LONG = os.environ.get("CAUSAL_JUDGE_LONG") == "1"
 SECONDS = 300
 JUDGED_AT_ONCE = 2
+
+ORDER_LINE = line_of(ORDER)
 
 NAMES = ("", "alice", "user:5/name", 'a "quoted" name', "two\nlines", "\u2028\x00\x7f", "\U0001f600 ✓", "x" * 2048, 0, 1, 2**64 - 1)
 VALUES = (*NAMES, True, False, -1, -(2**63))
@@ -108,7 +110,7 @@ def raising(error):
 
 
 def events_of(path):
-    """The events of a log, which has to be whole, each line allowed after those before."""
+    """The events of a log but for that of the order of time. The log has to be whole, each line allowed after those before."""
     progress, events = Progress(), []
     with open(path, "rb") as stream:
         reader = LogReader(stream)
@@ -117,7 +119,7 @@ def events_of(path):
             if fault:
                 raise AssertionError(f"{path}, line {number}: {fault}")
             progress.take(event)
-            events.append(event)
+            events += [event] if event != ORDER else []
     if reader.is_torn or reader.lacks_feed:
         raise AssertionError(f"{path} has a torn end")
     return events

@@ -7,7 +7,7 @@ import random
 import sys
 import unittest
 
-from causal_judge.events import LogError, LogReader, Progress, check_event, check_name, check_value, is_same, line_of, read_log
+from causal_judge.events import ORDER, LogError, LogReader, Progress, check_event, check_name, check_value, is_same, line_of, read_log
 from support import NAMES, NO_NAMES, NO_VALUES, REPOSITORY, VALUES, many
 
 PLAIN = REPOSITORY / "tests" / "plain"
@@ -47,8 +47,14 @@ class Forms(unittest.TestCase):
             check_event(["begin", key, ["d", key]])
         check_event(["end", "a", None])
 
+    def test_order_of_time(self):
+        check_event(["order", "time"])
+        for wrong in (["order"], ["order", "Time"], ["order", "lines"], ["order", None], ["order", "time", None], ["order", ["time"]]):
+            with self.subTest(event=wrong), self.assertRaisesRegex(ValueError, "is no event"):
+                check_event(wrong)
+
     def test_notes(self):
-        """All but a start may have one element more, whatever it is. Their calls have none more."""
+        """What begins and ends a call may have one element more, whatever it is. Calls have none more."""
         for note in (None, 0, "n1", 1.5, [], {"server": "n1", "at": [17.25]}, "ok"):
             begins = ["begin", "a", ["w", "k", 1]], ["begin", "a", ["r", "k"]], ["begin", "a", ["d", "k"]]
             for event in (*begins, ["end", "a", 1], ["fail", "a"]):
@@ -162,6 +168,10 @@ class WhatIsPending(unittest.TestCase):
             ([["begin", "a", ["r", "k"]]], ["start", "k", 1], "after a begin"),
             ([["start", "k", 1]], ["start", "k", 1], "has a start already"),
             ([["begin", 1, ["r", "k"]]], ["end", "1", None], "no call pending"),
+            ([ORDER], ORDER, "said after an event, or twice"),
+            ([["start", "k", 1]], ORDER, "said after an event, or twice"),
+            ([["begin", "a", ["r", "k"]]], ORDER, "said after an event, or twice"),
+            ([["begin", "a", ["r", "k"]], ["end", "a", None]], ORDER, "said after an event, or twice"),
         )
         for events, event, due in cases:
             progress = Progress()
@@ -169,6 +179,16 @@ class WhatIsPending(unittest.TestCase):
                 self.assertEqual(progress.fault_of(one), "")
                 progress.take(one)
             self.assertIn(due, progress.fault_of(event))
+
+    def test_order_of_time(self):
+        for first in ([], [ORDER]):
+            progress = Progress()
+            self.assertTrue(progress.is_empty)
+            for event in (*first, ["start", "k", 1], ["begin", "a", ["r", "k"]]):
+                self.assertEqual(progress.fault_of(event), "")
+                progress.take(event)
+                self.assertFalse(progress.is_empty)
+            self.assertEqual(progress.is_timed, bool(first))
 
     def test_taken(self):
         progress = Progress()
@@ -179,14 +199,14 @@ class WhatIsPending(unittest.TestCase):
 
 
 def outcome_of(data):
-    """The line at fault, if any, how many events came before it, and whether the last line is torn."""
+    """The line at fault, if any, how many events came before it but for that of the order of time, and whether the last line is torn."""
     reader, progress, events = LogReader(io.BytesIO(data)), Progress(), 0
     try:
         for number, event in reader:
             if progress.fault_of(event):
                 return number, events, False
             progress.take(event)
-            events += 1
+            events += event != ORDER
     except LogError as error:
         return error.line, events, False
     return None, events, reader.is_torn
@@ -200,8 +220,11 @@ PUT_IN = (b"", b"\n", b'"', b"]", b"[", b"-0", b"1.5", b"1e400", b"\xc3", b" ", 
 
 
 def mangled_log(rng):
-    """A short log of two clients, most of them with some bytes changed, left out or added."""
-    data = bytearray(b"".join(json.dumps(rng.choice(FORMS)).encode() + b"\n" for _ in range(rng.randint(0, 6))))
+    """A short log of two clients, most of them with some bytes changed, left out or added. Some say the order of time, here or there."""
+    events = [rng.choice(FORMS) for _ in range(rng.randint(0, 6))]
+    if rng.random() < 0.3:
+        events.insert(rng.choice((0, 0, 0, rng.randint(0, len(events)))), ORDER)
+    data = bytearray(b"".join(json.dumps(event).encode() + b"\n" for event in events))
     for _ in range(rng.choice((0, 0, 1, 1, 2))):
         at = rng.randint(0, len(data))
         data[at : at + rng.randint(0, 2)] = rng.choice(PUT_IN)

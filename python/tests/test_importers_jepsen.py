@@ -23,7 +23,7 @@ def operation(process, kind, function, value, found=None):
 
 
 class Operations(ImporterCase):
-    format = "jepsen"
+    format, is_timed = "jepsen", True
 
     def test_answered(self):
         text = operation(0, "ok", "write", 1) + operation(0, "ok", "read", "nil", 1) + operation(1, "ok", "cas", "[1 2]")
@@ -104,7 +104,7 @@ class Operations(ImporterCase):
 
 
 class Texts(ImporterCase):
-    format = "jepsen"
+    format, is_timed = "jepsen", True
     text = operation(0, "ok", "write", 1) + operation(1, "ok", "read", "nil", 1)
 
     def test_a_vector_or_a_list_of_all(self):
@@ -125,7 +125,7 @@ class Texts(ImporterCase):
 
 
 class Keys(ImporterCase):
-    format = "jepsen"
+    format, is_timed = "jepsen", True
 
     def test_tuples(self):
         text = operation(0, "ok", "write", "[7 1]") + operation(0, "ok", "read", "[7 nil]", "[7 1]")
@@ -172,7 +172,7 @@ class Keys(ImporterCase):
 
 
 class Refused(ImporterCase):
-    format = "jepsen"
+    format, is_timed = "jepsen", True
 
     def test_entries(self):
         for text, what in (
@@ -223,7 +223,7 @@ class Refused(ImporterCase):
 
 @needs_program
 class Verdicts(ImporterCase):
-    format = "jepsen"
+    format, is_timed = "jepsen", True
 
     def test_healthy(self):
         text = operation(0, "ok", "write", 1) + operation(1, "ok", "read", "nil", 1) + operation(1, "ok", "cas", "[1 2]")

@@ -10,7 +10,7 @@ import subprocess
 import unittest
 from collections import Counter
 
-from causal_judge.events import Progress, check_event, line_of
+from causal_judge.events import ORDER, Progress, check_event, line_of
 from causal_judge.importers import FORMATS, FormatError
 from causal_judge.program import find_program
 from support import SECONDS, many, needs_program
@@ -118,7 +118,8 @@ def imported(name, data):
 
 
 def settled(events):
-    """These events, and a `lost` for each call that is pending after them, so that another log may follow."""
+    """These events, and a `lost` for each call that is pending after them, so that another log may follow: so without the order of time."""
+    events = [event for event in events if event != ORDER]
     pending = dict.fromkeys(event[1] for event in events)
     for event in events:
         pending[event[1]] = event[0] == "begin"

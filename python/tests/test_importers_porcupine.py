@@ -24,7 +24,7 @@ def get(client, number, key, value):
 
 
 class Events(ImporterCase):
-    format = "porcupine"
+    format, is_timed = "porcupine", True
 
     def test_calls_and_returns(self):
         self.assert_events(put(0, 0, "k", "v") + get(1, 1, "k", "v"), write(0, "k", "v"), read(1, "k", "v"))
@@ -74,7 +74,7 @@ class Events(ImporterCase):
 
 
 class Refused(ImporterCase):
-    format = "porcupine"
+    format, is_timed = "porcupine", True
 
     def test_events(self):
         for client, kind, number, value, what in (
@@ -137,7 +137,7 @@ class Refused(ImporterCase):
 
 @needs_program
 class Verdicts(ImporterCase):
-    format = "porcupine"
+    format, is_timed = "porcupine", True
 
     def test_healthy(self):
         text = get(1, 0, "k", "") + put(0, 1, "k", "v") + event(0, 0, 2, {"op": "put", "key": "k", "value": "w"}) + get(1, 3, "k", "v")

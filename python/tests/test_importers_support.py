@@ -4,6 +4,7 @@ import io
 import json
 from collections import Counter
 
+from causal_judge.events import ORDER
 from causal_judge.importers import FORMATS, FormatError
 from support import FolderCase, verdicts_of, write_log
 
@@ -52,14 +53,15 @@ def write(client, key, value, is_lost=False):
 
 
 class ImporterCase(FolderCase):
-    """A test of the importer of one format."""
+    """A test of the importer of one format, whose texts are in the order of time or in none."""
 
-    format = ""
+    format, is_timed = "", False
 
     def assert_events(self, text, *calls, left_out=()):
-        """The text stands for these calls, one after the other, and this is left out."""
+        """The text stands for these calls, one after the other, and this is left out. Where it is in the order of time, the log says so."""
         events, found = imported(self.format, text)
-        self.assertEqual(list(map(json.dumps, events)), [json.dumps(event) for call in calls for event in call])
+        due = [ORDER] * self.is_timed + [event for call in calls for event in call]
+        self.assertEqual(list(map(json.dumps, events)), list(map(json.dumps, due)))
         self.assertEqual(found, Counter(left_out))
 
     def assert_refused(self, text, line, what):

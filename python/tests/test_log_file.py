@@ -7,7 +7,7 @@ from unittest import mock
 
 from causal_judge import Recorder, judge
 from causal_judge.log_file import LogFile
-from support import FolderCase, events_of, needs_program, run_python
+from support import ORDER_LINE, FolderCase, events_of, needs_program, run_python
 from test_recorder import OPENED, record
 
 FILLS = """
@@ -41,7 +41,7 @@ class FullDisk(FolderCase):
     @needs_program
     def test_limited_file(self):
         """Whatever byte the room ends at, nothing torn is left, and the client goes on where there is room again."""
-        limits = [0, 1, *range(1000, 1060)]
+        limits = [len(ORDER_LINE), len(ORDER_LINE) + 1, *range(1000, 1060)]
         done = run_python("-c", FILLS, *limits, folder=self.folder)
         rows = [tuple(map(int, line.split())) for line in done.stdout.decode().splitlines()]
         self.assertEqual([row[0] for row in rows], limits, done.stderr)
@@ -54,6 +54,16 @@ class FullDisk(FolderCase):
             has_lost += called - ended
         self.assertTrue(5 < has_lost < len(limits) - 5)
         self.assertTrue(judge(self.folder / f"{limits[-1]}.jsonl").meets())
+
+    def test_first_line_that_is_not_written(self):
+        """Opening a new log says so, and leaves it empty. Another recorder begins it."""
+        full = OSError(errno.ENOSPC, "no room")
+        for side_effect in (full, half_written(os.write)):
+            with mock.patch("os.write", side_effect=side_effect), self.assertRaisesRegex(OSError, "no room"):
+                Recorder(self.log, start={"k": 1})
+            self.assertEqual(self.log.read_bytes(), b"")
+        record(self.log, start={"k": 1})
+        self.assertEqual(self.log.read_bytes().splitlines(keepends=True)[:2], [ORDER_LINE, b'["start","k",1]\n'])
 
     def test_begin_that_is_not_written(self):
         with Recorder(self.log) as recorder:
@@ -103,7 +113,7 @@ class Pieces(FolderCase):
             client = recorder.client("a")
             with mock.patch("os.write", side_effect=half_written(write)), self.assertRaises(OSError):
                 client.begin_read("k")
-            self.assertEqual(self.log.read_bytes(), b"")
+            self.assertEqual(self.log.read_bytes(), ORDER_LINE)
 
     def test_torn_line_is_cut_before_the_next(self):
         write = os.write
@@ -112,7 +122,7 @@ class Pieces(FolderCase):
             no_cut = mock.patch("os.ftruncate", side_effect=OSError(errno.EIO, "no cut"))
             with mock.patch("os.write", side_effect=half_written(write)), no_cut, self.assertRaisesRegex(OSError, "no room"):
                 client.begin_read("k")
-            self.assertEqual(self.log.read_bytes(), b'["beg')
+            self.assertEqual(self.log.read_bytes(), ORDER_LINE + b'["beg')
             with no_cut, self.assertRaisesRegex(OSError, "no cut"):
                 client.begin_read("k")
             client.read("k", lambda: None)

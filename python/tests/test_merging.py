@@ -6,8 +6,9 @@ import subprocess
 import sys
 import unittest
 
-from causal_judge import LogError, merge
-from support import FolderCase, environment, events_of, needs_program, run_python, verdicts_of, write_log
+from causal_judge import LogError, Recorder, judge, merge
+from causal_judge.events import ORDER
+from support import ORDER_LINE, FolderCase, environment, events_of, needs_program, run_python, verdicts_of, write_log
 
 WRITE, READ = ["begin", "a", ["w", "k", 1]], ["begin", "b", ["r", "k"]]
 
@@ -43,6 +44,39 @@ class Merging(FolderCase):
         self.merged(first, [["start", "k", 0]])
         self.assertEqual(self.log.read_bytes(), b'["start","k",0]\n["begin", "a" ,["w","k",1]]\r\n \n["end","a","ok"]\n')
 
+    def test_the_order_of_time_is_left_out(self):
+        """Each file is in the order of time, and the joined one is not. It is no event that is counted."""
+        writes, reads = [["start", "k", 0], WRITE, ["end", "a", "ok"]], [READ, ["end", "b", 1]]
+        for one, other in (([ORDER, *writes], [ORDER, *reads]), (writes, [ORDER, *reads]), ([ORDER, *writes], reads)):
+            events, counts = self.merged(one, other)
+            self.assertEqual(events, [*writes, *reads])
+            self.assertNotIn(ORDER_LINE, self.log.read_bytes())
+            self.assertEqual((counts.starts, counts.events), (1, 4))
+        self.merged([ORDER], b"\n" + ORDER_LINE, [ORDER])
+        self.assertEqual(self.log.read_bytes(), b"")
+
+    def test_one_file_keeps_its_order_of_time(self):
+        torn = b'\n["order", "time"]\r\n["start","k",0]\n\n["begin","a",["w","k",1]]\n["end","a'
+        _, counts = self.merged(torn)
+        self.assertEqual(self.log.read_bytes(), ORDER_LINE + b'["start","k",0]\n["begin","a",["w","k",1]]\n["lost","a"]\n')
+        self.assertEqual((counts.starts, counts.events, counts.lost, counts.torn), (1, 1, 1, 1))
+        self.merged([WRITE])
+        self.assertNotIn(ORDER_LINE, self.log.read_bytes())
+
+    @needs_program
+    def test_what_a_store_deleted_before(self):
+        """A read that found nothing comes first in the joined log, and what it saw began last: that blames nobody."""
+        paths = [self.folder / f"{name}.jsonl" for name in "rw"]
+        with Recorder(paths[0]) as reads, Recorder(paths[1]) as writes:
+            bob, alice = reads.client("bob"), writes.client("alice")
+            alice.write("k", 1, lambda: None)
+            bob.read("k", lambda: 1)
+            alice.delete("k", lambda: None)
+            bob.read("k", lambda: None)
+        with self.log.open("wb") as out:
+            merge(paths, out)
+        self.assertTrue(judge(self.log).meets())
+
     def test_client_in_two_files(self):
         """Also where these are one file, named twice. Nothing is written then."""
         one, two = (write_log(self.folder / name, [WRITE, ["end", "a", "ok"]]) for name in ("one", "two"))
@@ -69,6 +103,8 @@ class Merging(FolderCase):
             ([WRITE, ["start", "k", 0]], "line 2: .*after a begin"),
             ([["start", "k", 0], ["start", "k", 0]], "line 2: .*has a start already"),
             (b"{}\n", "line 1: .*is no event"),
+            (ORDER_LINE * 2, "line 2: the order of time is said after an event, or twice"),
+            ([["start", "k", 0], ORDER], "line 2: the order of time is said after an event, or twice"),
         ):
             with self.assertRaisesRegex(LogError, f"1.jsonl, {what}"):
                 self.merged([READ], log)
@@ -93,7 +129,8 @@ class Merging(FolderCase):
 
 class Command(FolderCase):
     def test_merge(self):
-        paths = [write_log(self.folder / "one", [WRITE]), write_log(self.folder / "two", [["start", "k", "é"], READ, ["end", "b", 1]])]
+        logs = [ORDER, WRITE], [ORDER, ["start", "k", "é"], READ, ["end", "b", 1]]
+        paths = [write_log(self.folder / name, log) for name, log in zip(("one", "two"), logs)]
         done = run_python("-m", "causal_judge", "merge", *paths)
         self.assertEqual(done.returncode, 0)
         self.assertEqual(done.stdout.decode().splitlines()[0], '["start","k","é"]')

@@ -8,7 +8,7 @@ import unittest
 
 from causal_judge import merge
 from served_store import CLIENTS, StoreServer
-from support import TESTS, FolderCase, environment, events_of, many, needs_program, verdicts_of
+from support import ORDER_LINE, TESTS, FolderCase, environment, events_of, many, needs_program, verdicts_of
 
 MOMENTS, LAST_MOMENT = many(20, 200), 0.04
 PROCESSES, CALLS = 4, 25
@@ -48,6 +48,7 @@ class SeveralProcesses(ProcessCase):
         events = events_of(self.log)
         self.assertEqual((counts.files, counts.events), (PROCESSES, len(events) - counts.lost))
         self.assertEqual(counts.clients, len({event[1] for event in events}))
+        self.assertEqual([log.read_bytes().find(ORDER_LINE) for log in (*logs, self.log)], [0] * PROCESSES + [-1])
         self.assertTrue(verdicts_of([self.log])[0].meets())
 
 
@@ -71,13 +72,14 @@ class KilledProcesses(ProcessCase):
             self.assertTrue(verdict.meets(), f"{verdict.log}: {verdict}")
 
     def check_logs(self, killed, logs):
-        """A log goes on where it was cut, after a line for each call that was pending."""
+        """A log goes on where it was cut, after a line for each call that was pending. Its first line alone says the order of time."""
         most_pending = 0
         for cut, whole in zip(killed, logs):
             events, first = events_of(whole), cut.read_bytes()
             size = first.rfind(b"\n") + 1
             self.assertEqual(whole.read_bytes()[:size], first[:size])
-            count = first.count(b"\n")
+            self.assertEqual((whole.read_bytes().find(ORDER_LINE), whole.read_bytes().count(ORDER_LINE)), (0, 1))
+            count = max(0, first.count(b"\n") - 1)
             pending = {event[1] for event in events[:count]} - {event[1] for event in still_idle(events[:count])}
             self.assertEqual({event[1] for event in events[count : count + len(pending)] if event[0] == "lost"}, pending)
             most_pending = max(most_pending, len(pending))

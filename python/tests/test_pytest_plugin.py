@@ -74,14 +74,14 @@ class Plugin(FolderCase):
             """
         )
         self.assertEqual(outcomes, {"passed": 2, "failed": 2, "skipped": 1, "xfailed": 1}, text)
-        self.assertEqual(text.count('line 3 found nothing at "k", which line 1 had overwritten in its past.'), 1, text)
+        self.assertEqual(text.count('line 4 found nothing at "k", which line 2 had overwritten in its past.'), 1, text)
         self.assertIn("does not meet cc.", text)
         self.assertNotIn("During handling", text)
         self.assertEqual([name.rpartition("-")[0] for name in kept], ["test_store.py-test_lost", "test_store.py-test_own_fault"])
         for name in kept:
             log = self.folder / "causal-logs" / name
             self.assertIn(f"kept as {log}", text)
-            self.assertEqual(log.read_bytes().count(b"\n"), 4)
+            self.assertEqual(log.read_bytes().count(b"\n"), 5)
             self.assertIn(f"The page {log.with_suffix('.html')} shows it.", text)
             self.assertEqual(log.with_suffix(".html").read_text(encoding="utf-8"), explain(log, "html"))
         self.assertEqual(len(list((self.folder / "causal-logs").iterdir())), 4)

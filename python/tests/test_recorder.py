@@ -4,7 +4,7 @@ import os
 import unittest
 
 from causal_judge import LogError, Recorder
-from support import FolderCase, events_of, run_python, write_log
+from support import ORDER_LINE, FolderCase, events_of, run_python, write_log
 
 OPENED = ["begin", "a", ["w", "k", "a.1"]]
 
@@ -20,6 +20,7 @@ class Opening(FolderCase):
     def test_new_log(self):
         record(self.log)
         self.assertEqual(events_of(self.log), [OPENED, ["end", "a", "ok"]])
+        self.assertEqual(self.log.read_bytes(), ORDER_LINE + b'["begin","a",["w","k","a.1"]]\n["end","a","ok"]\n')
 
     def test_path(self):
         with Recorder(str(self.log)) as recorder:
@@ -152,6 +153,45 @@ class GoingOn(FolderCase):
         self.assertEqual(sum(event[0] == "lost" for event in events), 19)
 
 
+class OrderOfTime(FolderCase):
+    """A log says by its first event that it is in the order of time: where a recorder began it, and only there."""
+
+    def lines(self, before, **how):
+        """The lines of a log that had these bytes before a write was recorded."""
+        self.log.write_bytes(before)
+        record(self.log, "b", **how)
+        return self.log.read_bytes().splitlines(keepends=True)
+
+    def test_log_without_events(self):
+        """Also one of blank lines, or of the first bytes of that very line."""
+        written = [b'["start","k",1]\n', b'["begin","b",["w","k","b.1"]]\n', b'["end","b","ok"]\n']
+        for before, blanks in ((b"", []), (b"\n \n", [b"\n", b" \n"]), (b" \t", [b" \t\n"]), (b'\n["sta', [b"\n"])):
+            self.assertEqual(self.lines(before, start={"k": 1}), [*blanks, ORDER_LINE, *written])
+        for cut in range(len(ORDER_LINE) + 1):
+            self.assertEqual(self.lines(ORDER_LINE[:cut], start={"k": 1}), [ORDER_LINE, *written])
+
+    def test_log_of_nothing(self):
+        for _ in range(2):
+            Recorder(self.log).close()
+            self.assertEqual(self.log.read_bytes(), ORDER_LINE)
+
+    def test_log_that_goes_on(self):
+        """It says what it said: nothing is added, whatever its first event is."""
+        for first in (b'["start","k",1]\n', b'["begin","a",["r","k"]]\n', b'["begin","a",["r","k"]]', b'\n["begin","a",["r","k"]]\n["e'):
+            self.assertEqual(self.lines(first).count(ORDER_LINE), 0)
+        for first in (ORDER_LINE, b"\n" + ORDER_LINE, ORDER_LINE + b'["begin","a",["d","k"]]\n["los'):
+            for _ in range(3):
+                self.assertEqual(self.lines(first).count(ORDER_LINE), 1)
+                first = self.log.read_bytes()
+
+    def test_line_that_comes_too_late(self):
+        for first in (b'["start","k",1]\n', b'["begin","a",["r","k"]]\n', ORDER_LINE):
+            self.log.write_bytes(first + ORDER_LINE)
+            with self.assertRaisesRegex(LogError, f"{self.log}, line 2: the order of time is said after an event, or twice"):
+                Recorder(self.log)
+            self.assertEqual(self.log.read_bytes(), first + ORDER_LINE)
+
+
 class Starts(FolderCase):
     def test_start(self):
         with Recorder(self.log, start={"k": "v", 5: True}) as recorder:
@@ -182,6 +222,11 @@ class Starts(FolderCase):
         with self.assertRaisesRegex(RuntimeError, "after a begin"):
             Recorder(self.log, start={"l": 1})
         self.assertEqual(len(events_of(self.log)), 3)
+
+    def test_start_of_a_new_log(self):
+        """It comes after the line that says the order of time."""
+        Recorder(self.log, start={"k": 1}).close()
+        self.assertEqual(self.log.read_bytes(), ORDER_LINE + b'["start","k",1]\n')
 
 
 if __name__ == "__main__":

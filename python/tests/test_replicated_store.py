@@ -73,9 +73,10 @@ class Truth:
         return value == (values[-1] if values else None)
 
     def stale_lines(self, events):
-        """The lines of the begins of all answered reads, each with whether it was stale. The log has the reads in the store's order."""
+        """The lines of the begins of all answered reads, each with whether it was stale. The log has the reads in the store's order, after
+        a first line that says the order of time."""
         begins, found, reads = {}, {}, iter(self.store.reads)
-        for line, (word, client, *more) in enumerate(events, 1):
+        for line, (word, client, *more) in enumerate(events, 2):
             if word == "begin":
                 begins[client] = line, more[0]
             elif word == "end" and begins[client][1][0] == "r":

@@ -13,7 +13,7 @@ import unittest
 from concurrent.futures import ThreadPoolExecutor
 
 from causal_judge import Recorder
-from support import FolderCase, Refused, Unreachable, events_of, many, needs_program, run_threads, verdicts_of
+from support import ORDER_LINE, FolderCase, Refused, Unreachable, events_of, many, needs_program, run_threads, verdicts_of
 
 CLIENTS, KEYS, CALLS, SEEDS = 16, 6, 40, 3
 SMALL_RUNS, SMALL_CLIENTS, WRITES = 1000, 4, 4
@@ -198,7 +198,7 @@ class NewValues(unittest.TestCase):
     def joined(self, first):
         """The log of some runs, from the first of them on."""
         log = self.folder / f"from_{first}.jsonl"
-        log.write_bytes(b"".join(log.read_bytes() for log in self.logs[first : first + JOINED_RUNS]))
+        log.write_bytes(b"".join(log.read_bytes().removeprefix(ORDER_LINE) for log in self.logs[first : first + JOINED_RUNS]))
         return log
 
 

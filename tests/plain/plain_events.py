@@ -38,7 +38,8 @@ NAMES, VALUES = range(2**64), range(-(2**63), 2**64)
 
 class Events(NamedTuple):
     """What was read of a log: its events, by numbers, and the line of each; the lines that have a note; the names of clients, keys and values by
-    number; the code and the line of the refusal, or none; and whether the last line is not whole."""
+    number; the code and the line of the refusal, or none; whether the last line is not whole; and whether the log says that its lines stand
+    in the order of time."""
 
     events: list
     lines: list
@@ -46,6 +47,7 @@ class Events(NamedTuple):
     names: dict
     refusal: tuple | None
     is_torn: bool
+    is_timed: bool
 
 
 class Call:
@@ -100,6 +102,8 @@ def parted(value):
 def is_form(value):
     """Whether it is the form of an event without a note."""
     match value:
+        case ["order", "time"]:
+            return True
         case ["start", key, held]:
             return is_name(key) and is_value(held)
         case ["begin", client, ["w", key, written]]:
@@ -119,7 +123,13 @@ class Reader:
     def __init__(self):
         self.events, self.lines, self.noted = [], [], []
         self.names = {kind: Names() for kind in ("clients", "keys", "values")}
-        self.pending, self.started, self.has_begun = {}, set(), False
+        self.pending, self.started, self.has_begun, self.is_timed = {}, set(), False, False
+
+    def order(self):
+        """The lines of the log stand in the order of time: that is no event that counts, and comes before all events, once."""
+        if self.events or self.is_timed:
+            raise Refused(NOT_ALLOWED)
+        self.is_timed = True
 
     def start(self, key, held):
         """The key holds a value before the first call."""
@@ -154,6 +164,9 @@ class Reader:
         if not is_form(plain):
             raise Refused(NOT_ALLOWED)
         word, *rest = plain
+        if word == "order":
+            self.order()
+            return
         if word == "start":
             event = self.start(*rest)
         elif word == "begin":
@@ -166,7 +179,7 @@ class Reader:
 
     def found(self, refusal=None, is_torn=False):
         names = {kind: some.names for kind, some in self.names.items()}
-        return Events(self.events, self.lines, self.noted, names, refusal, is_torn)
+        return Events(self.events, self.lines, self.noted, names, refusal, is_torn, self.is_timed)
 
 
 def lines_of(data):

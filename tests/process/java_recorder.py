@@ -3,9 +3,9 @@
 
     python3 tests/process/java_recorder.py -- PROGRAM
 
-A case is a few statements of Java, which have a recorder and the clients `alice` and `bob`, and the lines that they have to append. What
-they throw comes after these lines. Threads share a recorder with a map that is linearizable, and another one with a map that forgets:
-PROGRAM says three `yes` of the first log, and three `no` of the second one.
+A case is a few statements of Java, which have a recorder and the clients `alice` and `bob`, and the lines that they have to append to the
+first one, which says the order of time. What they throw comes after these lines. Threads share a recorder with a map that is linearizable,
+and another one with a map that forgets: PROGRAM says three `yes` of the first log, and three `no` of the second one.
 """
 
 import argparse
@@ -20,6 +20,7 @@ from counting import end_after
 
 RECORDER = pathlib.Path(__file__).resolve().parents[2] / "examples" / "java" / "Recorder.java"
 THREADS, CALLS, SECONDS = 8, 200, 300
+ORDER = ["order", "time"]
 BEGUN_WRITE = ["begin", "alice", ["w", "x", "v"]]
 BEGUN_READ = ["begin", "alice", ["r", "x"]]
 BEGUN_DELETE = ["begin", "alice", ["d", "x"]]
@@ -57,6 +58,7 @@ class Tried {
 
 # The statements, and the lines. A text is the exception that they throw.
 CASES = {
+    "nothing": ("", []),
     "a write": ('alice.write("x", "v", () -> {});', [BEGUN_WRITE, OK]),
     "a write that is refused": ('alice.write("x", "v", () -> refused());', [BEGUN_WRITE, FAIL, "Refused"]),
     "a write without an answer": ('alice.write("x", "v", () -> broken());', [BEGUN_WRITE, LOST, "SocketTimeoutException"]),
@@ -277,12 +279,12 @@ def cases(program, room):
     yield f"the run: {run.stdout}{run.stderr}", (run.returncode, run.stdout, run.stderr) == (0, "refused\n", "")
     for name, (_, due) in CASES.items():
         found = [json.loads(line) for line in pathlib.Path(log_of(room, name)).read_text(encoding="ascii").splitlines()]
-        yield f"{name}: {found}, and not {due}", found == due
+        yield f"{name}: {found}, and not {ORDER} and {due}", found == [ORDER, *due]
     for name, answer in (("false", "yes"), ("true", "no")):
         log = pathlib.Path(log_of(room, name)).read_bytes()
         said = judged(program, log)
         yield f"a map that forgets, {name}: {said}", [line.split()[1] for line in said.splitlines()] == [answer] * 3
-        yield f"a map that forgets, {name}: {log.count(10)} lines", log.count(10) == 4 * THREADS * CALLS
+        yield f"a map that forgets, {name}: {log.count(10)} lines", log.count(10) == 1 + 4 * THREADS * CALLS
 
 
 def main():

@@ -11,7 +11,8 @@ effect long after its client gave it up. Replicas refuse some writes, keys are d
     by stamp     the same, and the write with the greatest stamp wins                         cc and ccv
 
 Each run is recorded twice. First as a log of events: a try without an answer is lost, and the next one is a call of its own, of a write with a
-new value. Then as a history, by history_recorder.py: a try without an answer is given up, a delete is a write of a new value, and a read that
+new value. The log is judged with the first line that recorders write, which says that it is in the order of time, and without it. Then as a
+history, by history_recorder.py: a try without an answer is given up, a delete is a write of a new value, and a read that
 finds nothing is left out, but for the keys that no run deletes: there it is a read of 0.
 
 Then 100 of these runs are recorded by each of three recipes that blame correct stores: a retry as one call with its first try, in a log and in
@@ -25,6 +26,7 @@ logs end anywhere. By a right recipe none is a `no`. By a wrong one at least one
     new connections            after a loss a client connects to any replica, and is a new one; wrong: it is the same one
     answers of another type    numbers that are answered as texts are numbers again; wrong: they are texts
     deletes that find nothing  done where each leaves a tombstone, lost where it may, failed where none does; wrong: failed where one may
+    a file for each client     joined, they do not say that they are in the order of time; wrong: they say it
 
 Runs of one kind of store are judged as one log, since they have neither clients nor keys in common. Where that is a `no`, it is halved until
 one run is left.
@@ -57,6 +59,7 @@ CLIENTS, CALLS, TRIES = 4, 20, 3
 KEYS, DELETED_KEYS = 4, (2, 3)
 TRAVEL, LATE, MESSAGES, PAUSES, TIME_OUT = (0.1, 1.0), (4.0, 30.0), (0.1, 10.0), (0.0, 2.0), 5.0
 LOST_SHARE, LATE_SHARE, REFUSED_SHARE, DELETE_SHARE, STOP_SHARE = 0.03, 0.06, 0.03, 0.3, 0.25
+ORDER = '["order","time"]\n'
 BLAMING_RUNS, LEAST_BLAMED, SITUATED_BLAMING_RUNS = 100, 3, 300
 SLOW_MESSAGES, CUT_SHARE, JUDGED_TOGETHER = (0.1, 40.0), 0.5, 25
 
@@ -70,17 +73,19 @@ class Kind(NamedTuple):
 
 
 class Recipe(NamedTuple):
-    """How clients record: a retry as a write of its own, and for which keys a read that finds nothing is left out of a history; or as a log."""
+    """How clients record: a retry as a write of its own, and for which keys a read that finds nothing is left out of a history; or as a
+    log, which may say that it is in the order of time."""
 
     is_retry_of_its_own: bool
     left_out: tuple = ()
     is_log: bool = False
+    is_timed: bool = False
 
 
 KINDS = (Kind(1, False, ("cc", "cm", "ccv")), Kind(3, False, ("cc", "cm")), Kind(3, True, ("cc", "ccv")))
-RIGHT = (Recipe(True, is_log=True), Recipe(True, DELETED_KEYS))
+RIGHT = (Recipe(True, is_log=True, is_timed=True), Recipe(True, is_log=True), Recipe(True, DELETED_KEYS))
 WRONG = {
-    "a retry as one call of a log": Recipe(False, is_log=True),
+    "a retry as one call of a log": Recipe(False, is_log=True, is_timed=True),
     "a retry as one operation": Recipe(False, DELETED_KEYS),
     "finding nothing as a read of 0": Recipe(True),
 }
@@ -288,7 +293,7 @@ def recorded(seed, recipe):
     for number in range(CLIENTS):
         simulation.start(stopping(client(store, history, number % kind.replicas, recipe)))
     simulation.run()
-    return history.text()
+    return ORDER * recipe.is_timed + history.text()
 
 
 class User:
@@ -369,18 +374,25 @@ def delete(user, key, tombstones, share):
     call = user.session.begin("d", key)
     is_answered, is_found = yield from user.ask(call, lambda: user.store.delete(user.at, key, tombstones))
     if is_answered:
-        (call.end if is_found else {"done": call.end, "lost": call.give_up, "failed": call.drop}[user.recipe])()
+        (call.end if is_found else {"lost": call.give_up, "failed": call.drop}.get(user.recipe, call.end))()
 
 
 class Situation(NamedTuple):
     """What clients call, of which calls a recorder has to take care; how they are recorded rightly, and how wrongly, if that shows in random
-    runs; and how long messages between replicas take."""
+    runs; how long messages between replicas take; and whether each client has a file, which are joined."""
 
     name: str
     call: Callable
     right: str
     wrong: str = ""
     messages: tuple = MESSAGES
+    is_joined: bool = False
+
+    def heads(self, recipe):
+        """How logs of a recipe begin. What is recorded rightly is judged also where it does not say that it is in the order of time."""
+        if recipe == self.wrong:
+            return (ORDER,)
+        return ("",) if self.is_joined else (ORDER, "")
 
 
 SITUATIONS = (
@@ -390,6 +402,7 @@ SITUATIONS = (
     Situation("deletes that leave a tombstone", lambda user, key: delete(user, key, 1.0, 0.05), "done", "failed"),
     Situation("deletes that may leave a tombstone", lambda user, key: delete(user, key, 0.5, 0.1), "lost", "failed"),
     Situation("deletes that leave nothing", lambda user, key: delete(user, key, 0.0, 0.2), "failed"),
+    Situation("a file for each client", lambda user, key: delete(user, key, 1.0, 0.2), "done", "done in the order of time", is_joined=True),
 )
 
 
@@ -412,6 +425,8 @@ def situated(seed, situation, recipe):
     simulation.run()
     if store.rng.random() < CUT_SHARE:
         del log.lines[store.rng.randrange(len(log.lines)) :]
+    if situation.is_joined:
+        log.lines.sort(key=lambda event: event[1])
     return log.text()
 
 
@@ -441,13 +456,14 @@ def faults(seed, lines):
     return [f"{criterion} {lines.get(criterion)}" for criterion in KINDS[seed % len(KINDS)].promised if lines.get(criterion) != "yes"]
 
 
-def blamed_run(program, runs):
-    """The first of these runs, of one kind of store, of which something promised is no yes; none where there is none. A run is its seed and
-    its log."""
+def blamed_run(program, runs, heads):
+    """The first of these runs, of one kind of store, of which something promised is no yes where the log begins with one of these heads;
+    none where there is none. A run is its seed and its log."""
     seed = runs[0][0]
 
     def is_met(some):
-        return not faults(seed, verdict_of_log(program, "".join(text for _, text in some)))
+        log = "".join(text for _, text in some)
+        return not any(faults(seed, verdict_of_log(program, head + log)) for head in heads)
 
     if is_met(runs):
         return None
@@ -462,7 +478,7 @@ def blamed_runs(program, count, situation, recipe):
     step = len(KINDS) * JUDGED_TOGETHER
     for first, kind in itertools.product(range(0, count, step), range(len(KINDS))):
         runs = [(seed, situated(seed, situation, recipe)) for seed in range(first + kind, min(count, first + step), len(KINDS))]
-        if runs and (found := blamed_run(program, runs)):
+        if runs and (found := blamed_run(program, runs, situation.heads(recipe))):
             yield found
 
 
@@ -474,7 +490,7 @@ def judge_situation(program, count, situation):
     if not situation.wrong:
         return count - len(found), len(found)
     seed, text = next(blamed_runs(program, SITUATED_BLAMING_RUNS, situation, situation.wrong), (0, ""))
-    said = "; ".join(faults(seed, verdict_of_log(program, text)))
+    said = "; ".join(faults(seed, verdict_of_log(program, ORDER + text)))
     is_blamed = " no " in said
     print(f"{situation.name}, recorded as {situation.wrong}: seed {seed}: {said or 'no run is a no'}", flush=True)
     return count - len(found) + is_blamed, len(found) + (not is_blamed)

@@ -9,7 +9,7 @@ from collections import Counter
 from collections.abc import Iterator
 from typing import NamedTuple, TextIO
 
-from causal_judge.events import NAMES, Event, Value
+from causal_judge.events import NAMES, ORDER, Event, Value
 from causal_judge.importers.edn import forms
 from causal_judge.importers.edn_forms import Form, Keyword, Map, Tagged, text_of
 from causal_judge.importers.jepsen_shapes import Asked, Shapes, pair_of, value_of
@@ -42,11 +42,12 @@ def read_jepsen(stream: TextIO, left_out: Counter[str]) -> Iterator[Event]:
     """The events of a Jepsen history: its entries one after the other, or in one vector or list.
 
     Each entry is one event: an operation begins at its invocation, and ends at its completion. One that has none is pending at the end of
-    the log.
+    the log. Jepsen writes a history in the order of time, of all processes, and so the log says.
 
     It keeps what is pending, the processes, and the keys that are texts. Raises FormatError where the text is no EDN, and at an entry that
     has no form of an operation or does not fit those before it.
     """
+    yield ORDER
     operations = Operations()
     for line, form in forms(stream, opened=True):
         entry = _entry_of(line, form)

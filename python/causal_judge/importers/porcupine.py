@@ -9,7 +9,7 @@ from collections import Counter
 from collections.abc import Iterator
 from typing import Any, NamedTuple, TextIO
 
-from causal_judge.events import Event, Name, Value
+from causal_judge.events import ORDER, Event, Name, Value
 from causal_judge.importers.json_lines import Fields, name_of, objects_of, shown_field, value_of
 from causal_judge.importers.scanning import FormatError, shown
 from causal_judge.importers.writing import Call, Clients, at_line, read_of, write_of
@@ -28,11 +28,13 @@ class Pending(NamedTuple):
 
 
 def read_porcupine(stream: TextIO, left_out: Counter[str]) -> Iterator[Event]:
-    """The events of a Porcupine history, in the order of its lines. Nothing is left out.
+    """The events of a Porcupine history, in the order of its lines. For Porcupine that is the order of time, and so the log says. Nothing
+    is left out.
 
     It keeps what is pending, the names of the clients, and the ids of the calls that never returned. Raises FormatError at a line that is no
     event of the key-value model, at an append, and at an event that does not fit those before it.
     """
+    yield ORDER
     history = History()
     for line, fields in objects_of(stream):
         client, number, kind = name_of(line, fields, "ClientId"), name_of(line, fields, "Id"), _kind_of(line, fields)

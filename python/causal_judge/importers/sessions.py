@@ -32,8 +32,9 @@ TOKEN = re.compile(
 def read_sessions(stream: TextIO, left_out: Counter[str]) -> Iterator[Event]:
     """The events of sessions, operation by operation. Nothing is left out.
 
-    The client of a session is named by the place of its line among those that have operations. A value may be read on an earlier line
-    than it is written, so judge the log as a whole. It keeps one operation. Raises FormatError where the text is not of the grammar.
+    The client of a session is named by the place of its line among those that have operations. The log is in no order of time: a value may
+    be read on an earlier line than it is written, so judge it as a whole. It keeps one operation. Raises FormatError where the text is not
+    of the grammar.
     """
     tokens, session, line = tokens_of(stream, TOKEN), 0, 0
     for token in tokens:
