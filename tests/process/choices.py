@@ -6,9 +6,9 @@
 - LOGS tiny logs (deleting_stores.py), each with a null read, a read that found nothing of a key that some delete names. All are in the
   order of time, and every other one says so (--timed: all do). What `judge` says
   of each is compared with plain_choices.py. A `no` has to be one by every choice of what the null reads saw. Each line has to be that of
-  the history by the forced choice. What is a `no` where all null reads are left out has to stay one. One in a thousand logs may lack a
-  `no` of the forced choice, if a write or a delete was lost, since not all is found there, and one in a hundred of the runs below.
-- The cuts of every tenth of these, by `judge --every 1`, which are judged in the order of time: each `no` of a cut is one of each later
+  the history by the forced choice. What is a `no` where all null reads are left out has to stay one. One in 2,000 logs may lack a
+  `no` of the forced choice, if a write or a delete was lost, since not all is found there, and one in 500 of the runs below.
+- The cuts of every ninth of these, by `judge --every 1`, which are judged in the order of time: each `no` of a cut is one of each later
   cut, and of the whole log judged in the order of time. The same by every choice of what the null reads saw.
 - The examples of plain_choices.py, which that program is tried on too.
 - RUNS runs of correct stores, of which none may be a `no`, and as many with each planted fault, with the order of time and without it. Of
@@ -38,10 +38,10 @@ from counting import end
 JUDGE = ["judge", "--long", "--events"]
 SECONDS, TOGETHER = 120, 100
 MOST_CHOICES, FIRST_CHOICES = 2_000, 50
-TABLE_RUNS, ENOUGH, CUT_OF = 60, 1_000, 10
+TABLE_RUNS, ENOUGH, CUT_OF = 60, 1_000, 9
 TIMED, ORDER = {False: "without the order of time", True: "in the order of time"}, b'["order","time"]\n'
 FOUND = {"lost write": (26, 34), "evicted key": (27, 38), "resurrected value": (21, 21), "any replica": (19, 24)}
-MISSED, MISSED_OF, MISSED_RUNS_OF = "lack a no of the forced choice where a call was lost", 1_000, 100
+MISSED, MISSED_OF, MISSED_RUNS_OF = "lack a no of the forced choice where a call was lost", 2_000, 500
 WAYS = ("every choice", "left out", "forced", "program")
 SEEN = ("the start", "a delete", "more than one candidate", "no candidate", "a lost delete", "a pending delete")
 
