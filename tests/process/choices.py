@@ -4,10 +4,10 @@
     python3 tests/process/choices.py SEED LOGS RUNS [--long] [--timed] -- PROGRAM
 
 - LOGS tiny logs (deleting_stores.py), each with a null read, a read that found nothing of a key that some delete names. All are in the
-  order of time, and every other one says so (--timed: all do). What `judge` says
-  of each is compared with plain_choices.py. A `no` has to be one by every choice of what the null reads saw. Each line has to be that of
-  the history by the forced choice. What is a `no` where all null reads are left out has to stay one. One in 2,000 logs may lack a
-  `no` of the forced choice, if a write or a delete was lost, since not all is found there, and one in 500 of the runs below.
+  order of time, and every other one says so, or all with `--timed`. What `judge` says of each is compared with plain_choices.py. A `no`
+  has to be one by every choice of what the null reads saw. Each line has to be that of the history by the forced choice. What is a `no`
+  where all null reads are left out has to stay one. One in 2,000 logs may lack a `no` of the forced choice, if a write or a delete was
+  lost, since not all is found there, and one in 500 of the runs below.
 - The cuts of every ninth of these, by `judge --every 1`, which are judged in the order of time: each `no` of a cut is one of each later
   cut, and of the whole log judged in the order of time. The same by every choice of what the null reads saw.
 - The examples of plain_choices.py, which that program is tried on too.
@@ -42,7 +42,7 @@ TABLE_RUNS, ENOUGH, CUT_OF = 60, 1_000, 9
 TIMED, ORDER = {False: "without the order of time", True: "in the order of time"}, b'["order","time"]\n'
 FOUND = {"lost write": (26, 34), "evicted key": (27, 38), "resurrected value": (21, 21), "any replica": (19, 24)}
 MISSED, MISSED_OF, MISSED_RUNS_OF = "lack a no of the forced choice where a call was lost", 2_000, 500
-WAYS = ("every choice", "left out", "forced", "program")
+WAYS = ("every choice", "the log without null reads", "the forced choice", "the program")
 SEEN = ("the start", "a delete", "more than one candidate", "no candidate", "a lost delete", "a pending delete")
 
 
@@ -135,6 +135,12 @@ def seen_of(forced):
         yield from ["a lost delete"] * (left[0] in lost) + ["a pending delete"] * (left[0] in pending)
 
 
+def late_faults(events):
+    """What is wrong with some events that have to be in the order of time: a value that is read before its write begins."""
+    late = plain_events.late_write(events, 1, len(events))
+    return [f"not in the order of time: the read at {late[0]}, the write at {late[1]}"] if late else []
+
+
 def log_faults(log, said, counts):
     """What is wrong with what the program says of a tiny log. How often each thing came is counted."""
     found = plain_events.read_log(log)
@@ -144,8 +150,7 @@ def log_faults(log, said, counts):
     counts["logs", is_timed] += 1
     counts.update(seen_of(forced))
     counts.update((way, is_timed, criterion) for way, some in zip(WAYS, (*ways, said_no(said))) for criterion in some)
-    late = plain_events.late_write(events, 1, len(events))
-    return [*all_faults_of(forced, ways, said, counts), *([f"not in the order of time: {late}"] if late else [])]
+    return [*all_faults_of(forced, ways, said, counts), *late_faults(events)]
 
 
 def cut_choice_faults(events):
@@ -221,6 +226,7 @@ def correct_faults(given, is_timed):
     logs = [ORDER * is_timed + text.encode() for text, _ in runs]
     for (_, promised), log, said in zip(runs, logs, lines_of(given.program, logs)):
         wrong = [f"{criterion} {said.get(criterion)}, which the store promises" for criterion in promised if said.get(criterion) != "yes"]
+        wrong += late_faults(plain_events.read_log(log).events)
         yield [kept(log), *wrong] if wrong else []
 
 
@@ -235,7 +241,6 @@ def planted_faults(given, fault, is_timed):
     print(f"{fault}: {sum(found)} of {len(runs)} runs are a no {TIMED[is_timed]}, {counts[MISSED]} {MISSED}", flush=True)
     yield missed_faults(counts, given.runs, MISSED_RUNS_OF)
     many, due = sum(found[:TABLE_RUNS]), FOUND[fault][is_timed]
-    print(f"{fault}: {many} of the first {TABLE_RUNS}", flush=True)
     yield [] if len(runs) < TABLE_RUNS or many >= due else [f"{fault}: {many} of {TABLE_RUNS} runs are a no {TIMED[is_timed]}, due {due}"]
 
 
