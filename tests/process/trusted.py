@@ -304,7 +304,7 @@ class Module:
             indent = len(text) - len(text.lstrip())
             if text.strip()[0] not in "})":
                 sections = sections[: indent // 2]
-            if re.match(r"\s*(module _ .*where|abbrev mutual)$", text):
+            if re.match(r"\s*(module _ .*where|(abbrev )?mutual)$", text):
                 sections, here = [*sections, at], None
             else:
                 here = self.take_line(at, text, indent, sections, here)

@@ -2,7 +2,7 @@
 use Rattle.std.proofs.Common.{◌≡◌, ℕ, ◌<◌, ◌≤◌, [], ◌∷◌, ◌++◌, ap, sym, subst, ◌∙◌, refl, inl, inr, ⊎_elim, arith}
 use Rattle.std.specs.Prelude.{◌≢◌, ◌⊎◌, Bool, false, true, List, All, Contains, Option, Some, None, IsTrue, slice_get}
 use Rattle.std.proofs.lemmas.Option.{same_Some}
-use Rattle.std.proofs.lemmas.List.Elements.{All-contains, All-push, Contains-append_left, Contains-append_right}
+use Rattle.std.proofs.lemmas.List.Elements.{All-contains, All-cons, Contains-append_right}
 use Rattle.log_events.specs.declared.event.ClientCall.TheVariants.{WriteTo, DeleteOf}
 use Rattle.log_events.specs.declared.event.Ending.TheVariants.{Failed}
 use Rattle.log_events.specs.declared.event.Event.{Event}
@@ -164,22 +164,26 @@ module _ (in_time : Bool) (es : List Event) where
       look-from MoreLeft b outs start out first within = tt
 
 module _ (in_time : Bool) (es : List Event) (r j : ℕ) where
-  -- one more delete that the read can't have seen, and the first that it can
+  -- one more delete that the read can't have seen, before some, and the first that it can
   pub left-out : (deletes : List Delete) (d : Delete) (left : Left) → IsLeft in_time es r j deletes left → IsExcluded in_time es r j d.place
-      → IsLeft in_time es r j (deletes ++ d ∷ []) left
-  left-out deletes d NoneLeft outs out = All-push (λ (e : Delete). IsExcluded in_time es r j e.place) deletes d outs out
+      → IsLeft in_time es r j (d ∷ deletes) left
+  left-out deletes d NoneLeft outs out = All-cons (λ (e : Delete). IsExcluded in_time es r j e.place) d deletes out outs
   left-out deletes d (OneLeft e) (there, timed, outs) out = (
-    Contains-append_left deletes (d ∷ []) e there,
+    Contains-append_right (d ∷ []) deletes e there,
     timed,
-    All-push (λ (a : Delete). a.place ≢ e.place → IsExcluded in_time es r j a.place) deletes d outs (λ _. out),
+    All-cons (λ (a : Delete). a.place ≢ e.place → IsExcluded in_time es r j a.place) d deletes (λ _. out) outs,
   )
   left-out deletes d MoreLeft outs out = tt
 
   pub left-one : (deletes : List Delete) (d : Delete) → IsLeft in_time es r j deletes NoneLeft → (IsTrue in_time → d.place < j)
-      → IsLeft in_time es r j (deletes ++ d ∷ []) (OneLeft d)
+      → IsLeft in_time es r j (d ∷ deletes) (OneLeft d)
   left-one deletes d outs timed = (
-    Contains-append_right deletes (d ∷ []) d (0, omega arith, refl),
+    (0, omega arith, refl),
     timed,
-    All-push (λ (a : Delete). a.place ≢ d.place → IsExcluded in_time es r j a.place) deletes d
-        (λ k e below other. outs k e below) (λ other. absurd (other refl)),
+    All-cons (λ (a : Delete). a.place ≢ d.place → IsExcluded in_time es r j a.place) d deletes (λ other. absurd (other refl))
+        (λ k e below other. outs k e below),
   )
+
+  -- none so far
+  pub left-none : IsLeft in_time es r j [] NoneLeft
+  left-none k e below = absurd (omega arith)

@@ -82,7 +82,7 @@ pub(crate) fn kept_deletes(alloc: Global, log: &EventLog) -> Result<Vec<Delete>,
     ensures { IfOk result (λ deletes. AreDeletes log.now deletes.items) }
 {
     let mut deletes = listed_deletes(alloc, log.calls())?;
-    deletes.sort_unstable_by_key(|delete| delete.key);
+    deletes.sort_by_key(|delete| delete.key)?;
     Ok(deletes)
 }
 

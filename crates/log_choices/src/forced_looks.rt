@@ -160,10 +160,12 @@ impl Plan {
         ensures { IsLeft timed.now.in_time timed.now.log.now read.place read.end deletes.now result }
     {
         let mut left = Left::NoneLeft;
-        for delete in deletes {
-            if !self.is_excluded(timed, *delete, read, replacing) {
+        // The last ones first, since they are the likeliest to be left.
+        for number in (0..deletes.len()).rev() {
+            let delete = deletes[number];
+            if !self.is_excluded(timed, delete, read, replacing) {
                 match left {
-                    Left::NoneLeft => left = Left::OneLeft(*delete),
+                    Left::NoneLeft => left = Left::OneLeft(delete),
                     _ => return Left::MoreLeft,
                 }
             }

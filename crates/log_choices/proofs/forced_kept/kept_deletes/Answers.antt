@@ -10,5 +10,5 @@ use Rattle.log_choices.proofs.forced_kept.kept_deletes.Goals as goal
 pub returns : goal.returns
 returns c =
     let is = c.in_ok-deletes.ensures ∙ ap (λ (l : List Call). filter_map deleted_spot l) c.calls.ensures.exact in
-    deletes-are c.args.log.now c.in_ok-deletes.deletes.items is c.sort_unstable_by_key.new.self.items c.sort_unstable_by_key.ensures.permutation
-    (c.sort_unstable_by_key.ensures.sorted (λ (d : Delete). d.key) (answers_always _ _ _ (λ f a r q k. search rules)))
+    deletes-are c.args.log.now c.in_ok-deletes.deletes.items is c.sort_by_key.new.self.items c.sort_by_key.ensures.permutation
+    (c.in_ok-sort_by_key.ensures.sorted (λ (d : Delete). d.key) (answers_always _ _ _ (λ f a r q k. search rules)))
