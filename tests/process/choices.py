@@ -168,13 +168,13 @@ def cut_faults(program, log, counts):
     done = subprocess.run([*program, *JUDGE, "--every", "1"], input=log, capture_output=True, check=False, timeout=SECONDS)
     cuts = [line.partition(" ")[::2] for line in done.stdout.decode(errors="replace").splitlines()]
     refused = [(int(many), {text.split(" ")[0] for text in lines.split("; ") if " no " in text}) for many, lines in cuts]
-    events = plain_events.read_log(log).events
+    found = plain_events.read_log(log)
+    events = found.events
     if [many for many, _ in refused] != list(range(1, len(events) + 1)):
         yield f"cuts at {[many for many, _ in refused]}"
         return
     yield from cut_choice_faults(events)
-    ordered = log if log.startswith(ORDER) else ORDER + log
-    [whole] = lines_of(program, [ordered])
+    [whole] = lines_of(program, [log if found.is_timed else ORDER + log])
     refused.append(("all", said_no(whole)))
     for (many, some), (more, later) in itertools.pairwise(refused):
         counts["cuts"] += 1
