@@ -189,7 +189,7 @@ def missed_faults(counts, many, share):
 
 
 def tiny_log(seed, number, is_timed):
-    """A tiny log in which some read found nothing of a key that some delete names, with few choices, which says the order of time or not."""
+    """A tiny log in which some read found nothing of a key that some delete names, with few choices. It says the order of time or not."""
     rng = random.Random(f"{seed} {number}")
     while True:
         log = deleting_stores.tiny_log(rng).encode()
