@@ -127,7 +127,6 @@ EXAMPLES = {
     "both of two deletes come after a write": Example(
         ("0 w 1 7", "1 r 1 7", "1 d 0", "2 r 1 7", "2 d 0", "3 w 0 5", "3 r 0 -", "3 r 1 -"), {6: None}, ALL, NO
     ),
-    "nothing after a delete, a write and a delete after that": Example(("0 d 0", "0 w 0 5", "0 r 0 -", "0 d 0"), {2: 0}, NO, NO),
     "a lost delete before a write": Example(("0 w 0 5", "0 d 0 lost", "0 w 0 6", "0 r 0 -", "0 r 0 5"), {3: 1}, NO, NO),
     "in time, a delete after the read by another client": Example((TIME, "0 w 0 5", "0 r 0 -", "1 d 0"), {1: -1}, NO, NO),
     "in time, a start and a delete after the read": Example((TIME, "start 0 4", "0 r 0 -", "1 d 0"), {0: -1}, NO, NO),
