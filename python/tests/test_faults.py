@@ -215,7 +215,7 @@ class Calls(FolderCase):
             self.log.write_text(deleting(rng, number) if number % 2 else text_of(log_of(rng)))
             found = plain_events.read_log(self.log.read_bytes())
             history = json.loads(run_program(find_program(), EVENTS, self.log, None))
-            run = plain_events.run_shown(found.events, history)
+            run = plain_events.run_shown(found.events, history, found.is_timed)
             if run.form() != history:
                 continue
             due = {(s, i): one for s, session in enumerate(run.origins) for i, (_, one) in enumerate(session)}

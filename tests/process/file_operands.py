@@ -43,7 +43,9 @@ FILES = {
     "open_text.json": b'["mem',
     "lines.jsonl": b'["memory",[[["w",0,1]]]]\n' + STALE_MEMORY + b"\n",
     "claim.json": b"[" + STALE_MEMORY + b',"cc",["WriteCOInitRead",[[0,0],[0,1]]]]',
-    "deletes.jsonl": b'["begin","a",["d","x"]]\n["end","a","ok"]\n["begin","a",["r","x"]]\n["end","a",null]\n'
+    "asked.jsonl": b'["begin","a",["d","x"]]\n["end","a","ok"]\n["begin","a",["r","x"]]\n["end","a",null]\n',
+    "timed.jsonl": b'["order","time"]\n["begin","a",["r","x"]]\n["end","a",null]\n["begin","b",["d","x"]]\n["end","b","ok"]\n',
+    "deletes.jsonl": b'["begin","a",["d","x"]]\n["end","a","ok"]\n["begin","b",["r","x"]]\n["end","b",null]\n'
     b'["begin","b",["w","y",1]]\n["lost","b"]\n["begin","b",["w","y",1]]\n["fail","b"]\n',
     "causal": STALE_MEMORY,
     "two words.json": b'["memory",[]]',
@@ -213,6 +215,10 @@ def cases_of_counts(runs):
     yield "summary by standard input", runs.said("judge", "--events", "--summary", given=LOG) == (0, MET, line)
     line = "clients 2, calls 4, writes 3, reads answered 1, lost 1, failed 1, reads that ask nothing 1, keys 2, values that repeat 1\n"
     yield "deletes and losses", runs.said("judge", "--summary", "deletes.jsonl")[2] == line
+    line = "clients 1, calls 2, writes 1, reads answered 1, lost 0, failed 0, reads that ask nothing 0, keys 1, values that repeat 0\n"
+    yield "a read that is forced asks", runs.said("judge", "--summary", "asked.jsonl")[2] == line
+    line = "clients 2, calls 2, writes 1, reads answered 1, lost 0, failed 0, reads that ask nothing 0, keys 1, values that repeat 0\n"
+    yield "a read before a delete asks in time", runs.said("judge", "--summary", "timed.jsonl")[2] == line
     line = "clients 1, calls 2, writes 1, reads answered 1, lost 0, failed 0, reads that ask nothing 0, keys 1, values that repeat 0\n"
     yield "summary of a history", runs.said("judge", "--summary", "stale.json") == (0, STALE, line)
     yield "enough reads", runs.said("judge", "--at-least-reads", "1", "log.jsonl") == (0, MET, "")
