@@ -1,7 +1,8 @@
 """Makes random logs of events for the tests of `--events`: of clients that fail, are lost, delete and stop, and such as are refused.
 
 What these logs show is known to plain_events.py alone. A log is made as a list of events, each a list as it stands in its line, and then
-written: with notes, in any spelling of its JSON, with blank lines, cut at its end, and spoilt.
+written: with notes, in any spelling of its JSON, with blank lines, cut at its end, and spoilt. It may say that its lines stand in the order
+of time, also where they don't.
 """
 
 import json
@@ -27,7 +28,7 @@ NUMBERED = (
 NOTES = ({"server": "n1"}, {"at": 17.25, "by": ["n1", "n2"], "retried": False}, "request 17 at n2", "", "\u202e", "\x1b[31m", "</script>", "a" * 300)
 NOTES += (None, True, 0, -(2**63), 2**64 - 1, 0.5, -0.125, [], {}, [[]], ["ok"], {"": None, '"': "\\", "\u2028": "\n"}, "ok", "lost", ["lost", "a"])
 NOTES += (json.loads("[" * 126 + "]" * 126), json.loads('{"a":' * 60 + "0" + "}" * 60))
-LONG_LINE = 2_000_000
+LONG_LINE, ORDER = 2_000_000, ["order", "time"]
 NO_JSON = (b"begin", b"[", b'["begin","a"', b"{'a':1}", b'["lost","a"]]', b'"\xff"', b"\xc3\x28", b'["lost","\\ud800"]', b"NaN", b"01")
 NO_JSON += (b"[1,]", b"\x00", b"[" * 128 + b"]" * 128, b"1e400", b'\xef\xbb\xbf["lost","a"]', b'["fail" "a"]', b'["lost","a\tb"]')
 NO_FORM = ([], {}, 5, "lost", None, True, [["lost"]], ["begin"], ["begin", "a"], ["begin", "a", []], ["begin", "a", ["r"]], ["stop", "a"])
@@ -38,7 +39,7 @@ NO_FORM += (["begin", "a", ["w", "k", 2**64]], ["begin", "a", ["w", "k", -(2**63
 NO_FORM += (["start", "k", None], ["start", "k"], ["start", None, 1], ["start", "k", 1.0], ["START", "k", 1], ["end", "a"], ["end", "a", {}])
 NO_FORM += (["begin", "a", ["w", "k", 1], 0, 0], ["begin", "a", "r", "k"], ["end", "a", 1, 2, 3], ["fail", "a", "ok", None], [1, "a"])
 NO_FORM += (["start", "k", 1, 2], ["begin", "a", ["r", "k", 1], 0], ["end", "a", {}, 1], ["fail", None, 1], ["END", "a", 1, 2])
-NO_FORM += (["begin", ["a"], ["r", "k"]], ["end", None, 1], ["lost", {}])
+NO_FORM += (["begin", ["a"], ["r", "k"]], ["end", None, 1], ["lost", {}], ["order"], ["order", "Time"], ["order", "time", 1], ["order", ["time"]])
 NO_NUMBERS = (b"1.0", b"1e2", b"-0", b"0.0", b"18446744073709551616", b"-9223372036854775809", b"1E400")
 
 
@@ -245,7 +246,7 @@ def wrong_event(rng, events, at):
     clients = [event[1] for event in events if event[0] == "begin"] or ["nobody"]
     starts = [event for event in events[:at] if event[0] == "start"]
     choices = [["start", "late", 1], ["begin", rng.choice(clients), ["r", "k"]], ["end", rng.choice(clients), "ok"], ["fail", "nobody"]]
-    choices += [["end", rng.choice(clients), None], ["end", rng.choice(clients), 5], ["lost", rng.choice(clients)], *starts]
+    choices += [["end", rng.choice(clients), None], ["end", rng.choice(clients), 5], ["lost", rng.choice(clients)], ORDER, *starts]
     return rng.choice(choices)
 
 
@@ -276,6 +277,7 @@ def log(rng):
     """The bytes of a log, which may be refused."""
     events, notes = events_of(rng), rng.choice((0, 0, 0.2, 1))
     lines = [line_of(rng, noted(rng, event, notes)) for event in events]
+    lines = [line_of(rng, ORDER)] * (rng.random() < 0.3) + lines
     for _ in range(rng.choice((0, 0, 0, 0, 1)) if rng.random() < 0.9 else 2):
         lines = spoilt(rng, events, lines)
     for _ in range(rng.choice((0, 0, 0, 1, 3))):

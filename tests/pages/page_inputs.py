@@ -58,7 +58,7 @@ def lines_of(log):
             begin_of[client] = line
         elif word == "end" and line in found.noted:
             noted[begin_of[client]] = line
-    lines = [[found.lines[call.place] for _, call in session] for session in plain_events.Run(found.events).origins]
+    lines = [[found.lines[call.place] for _, call in session] for session in plain_events.Run(found.events, is_timed=found.is_timed).origins]
     return plain_events.text_of([[[line, noted[line]] if line in noted else line for line in session] for session in lines])
 
 

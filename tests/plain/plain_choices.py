@@ -7,6 +7,8 @@ It writes three lines as `judge`: those of the history by the forced choice; wit
 saw gives a history that meets the criterion, tried one by one; with `--seen` instead what each null read saw by the forced choice, by the
 lines of the begins: of its delete, `start`, or `open` where more than one candidate is left. `--check` tries the examples of this file.
 
+A log that says that its lines stand in the order of time is judged by that order, where a read saw no delete that begins later.
+
 It knows nothing of the program. Choices are those of plain_forced.py, histories those of plain_events.py, and lines those of
 plain_long_judge.py.
 """
@@ -27,9 +29,8 @@ from plain_forced import START
 MEMORY = "memory"
 
 
-def kinds_by(events, choice=None):
-    """The kind that each line names, or none of a yes, of the history of some events by a choice, or by the forced one where none is
-    given. None where values are not distinct."""
+def kinds_by(events, choice):
+    """The kind that each line names, or none of a yes, of the history of some events by a choice. None where values are not distinct."""
     _, sessions, *start = plain_events.Run(events, choice).form()
     calls = [[split(MEMORY, operation) for operation in session] for session in sessions]
     return plain_long_judge.kinds(start[0] if start else [], calls)
@@ -45,11 +46,11 @@ def how_many(found):
     return math.prod(map(len, found.values()))
 
 
-def met_by_some(events, first=()):
-    """The criteria that the history by some choice meets, in which no null read is left out. Some of the choices are tried first. None
-    where values are not distinct."""
-    met = set()
-    for choice in itertools.chain(first, choices_of(plain_events.Run(events, {}).candidates())):
+def met_by_some(events, is_timed, first=()):
+    """The criteria that the history by some choice meets, in which no null read is left out: none where one has no candidate. Some of the
+    choices are tried first. None where values are not distinct."""
+    met, found = set(), plain_events.Run(events, {}, is_timed).candidates()
+    for choice in itertools.chain(first, choices_of(found)) if how_many(found) else ():
         kinds = kinds_by(events, choice)
         if kinds is None:
             return None
@@ -61,7 +62,7 @@ def met_by_some(events, first=()):
 
 def seen_lines(found):
     """What each null read of a log saw by the forced choice, a line each, by the lines of the begins."""
-    forced = plain_events.Run(found.events, {}).forced()
+    forced = plain_events.Run(found.events, {}, found.is_timed).forced()
     for read in forced.reads:
         left = forced.left[read.place]
         saw = "open" if len(left) > 1 else "nothing left" if not left else "start" if left[0] is START else f"line {found.lines[left[0]]}"
@@ -70,9 +71,13 @@ def seen_lines(found):
 
 def log_of(*calls):
     """The bytes of a log of calls, each as "client word key [value] [ending]" with numbers, one after the other. A value of a read is
-    what it got, and "-" is nothing; the endings are "lost", "fail" and "open". Before them "start key value" may stand."""
+    what it got, and "-" is nothing; the endings are "lost", "fail" and "open". Before them "order time" and "start key value" may
+    stand."""
     events = []
     for text in calls:
+        if text == "order time":
+            events.append(["order", "time"])
+            continue
         client, word, key, *rest = text.split()
         if client == "start":
             events.append(["start", int(word), int(key)])
@@ -95,7 +100,7 @@ class Example(NamedTuple):
     met_by_any: tuple
 
 
-ALL, NO = CRITERIA, ()
+ALL, NO, TIME = CRITERIA, (), "order time"
 EXAMPLES = {
     "a client deletes what it wrote": Example(("0 w 0 5", "0 d 0", "0 r 0 -"), {2: 1}, ALL, ALL),
     "nothing after a delete and a write": Example(("0 d 0", "0 w 0 5", "0 r 0 -"), {2: 0}, NO, NO),
@@ -122,21 +127,28 @@ EXAMPLES = {
     "both of two deletes come after a write": Example(
         ("0 w 1 7", "1 r 1 7", "1 d 0", "2 r 1 7", "2 d 0", "3 w 0 5", "3 r 0 -", "3 r 1 -"), {6: None}, ALL, NO
     ),
+    "a lost delete before a write": Example(("0 w 0 5", "0 d 0 lost", "0 w 0 6", "0 r 0 -", "0 r 0 5"), {3: 1}, NO, NO),
+    "in time, a delete after the read by another client": Example((TIME, "0 w 0 5", "0 r 0 -", "1 d 0"), {1: -1}, NO, NO),
+    "in time, a start and a delete after the read": Example((TIME, "start 0 4", "0 r 0 -", "1 d 0"), {0: -1}, NO, NO),
+    "in time, a first read before the delete": Example((TIME, "0 r 0 -", "1 d 0"), {0: -1}, ALL, ALL),
+    "in time, a delete before the read": Example((TIME, "0 w 0 5", "1 d 0", "0 r 0 -", "2 d 0"), {2: 1}, ALL, ALL),
+    "in time, nothing left and two deletes": Example((TIME, "0 d 0", "0 w 0 5", "0 r 0 -", "1 d 0"), {2: 0}, NO, NO),
+    "in time, a delete that is pending": Example((TIME, "1 d 0 open", "0 w 0 5", "0 r 0 -"), {2: 0}, ALL, ALL),
 }
 
 
 def faults_of_examples():
     """What is wrong with what this program says of each example."""
     for name, example in EXAMPLES.items():
-        events = plain_events.read_log(log_of(*example.calls)).events
-        forced = plain_events.Run(events, {}).forced()
+        found = plain_events.read_log(log_of(*example.calls))
+        forced = plain_events.Run(found.events, {}, found.is_timed).forced()
         number = {START: -1, **forced.number}
         seen = {forced.number[read.place]: None for read in forced.reads}
         seen |= {number[read]: number[delete] for read, delete in forced.choice.items()}
-        met = tuple(criterion for criterion, kind in kinds_by(events).items() if kind is None)
-        by_any = tuple(criterion for criterion in CRITERIA if criterion in met_by_some(events))
-        found = Example(example.calls, seen, met, by_any)
-        yield [] if found == example else [f"{name}: {found[1:]}, due {example[1:]}"]
+        met = tuple(criterion for criterion, kind in kinds_by(found.events, forced.choice).items() if kind is None)
+        by_any = tuple(criterion for criterion in CRITERIA if criterion in met_by_some(found.events, found.is_timed))
+        said = Example(example.calls, seen, met, by_any)
+        yield [] if said == example else [f"{name}: {said[1:]}, due {example[1:]}"]
 
 
 def main():
@@ -153,10 +165,10 @@ def main():
     if given.seen:
         text = "".join(seen_lines(found))
     elif given.all:
-        met = met_by_some(found.events)
+        met = met_by_some(found.events, found.is_timed)
         text = None if met is None else "".join(f"{criterion} {'yes' if criterion in met else 'no'}\n" for criterion in CRITERIA)
     else:
-        text = plain_events.report_on(found.events)
+        text = plain_events.report_on(found.events, found.is_timed)
     sys.stdout.write(sys.exit("values are not distinct") if text is None else text)
 
 

@@ -52,11 +52,11 @@ class Events(NamedTuple):
 
 class Call:
     """A call of the run: its client, the place of its begin among the events, what was called, and how it ended: "open", "ok", "got",
-    "nothing", "failed" or "lost"; of a read that got a value, the value."""
+    "nothing", "failed" or "lost"; of a read that got a value, the value; and the place of its end, if it has ended."""
 
     def __init__(self, client, place, word, key, value):
         self.client, self.place, self.word, self.key, self.value = client, place, word, key, value
-        self.ending, self.got = "open", None
+        self.ending, self.got, self.end = "open", None, None
 
 
 class Names:
@@ -236,7 +236,7 @@ def calls_of(events):
             pending[rest[0]] = calls[-1]
         elif word == "end":
             client, ending, got = rest
-            pending[client].ending, pending[client].got = ending, got
+            pending[client].ending, pending[client].got, pending[client].end = ending, got, place
     return calls
 
 
@@ -252,11 +252,11 @@ def written_by(call):
 
 class Run:
     """The calls of a log, and the history that it stands for by what is forced of reads that found nothing, or by a choice that is given:
-    it says by the place of a null read the place of the delete that it saw, or None for the start. Others are left out. Each operation is
-    a form with the call that it comes from."""
+    it says by the place of a null read the place of the delete that it saw, or None for the start. Others are left out. What is forced may
+    be so by the order of time. Each operation is a form with the call that it comes from."""
 
-    def __init__(self, events, choice=None):
-        self.calls = calls_of(events)
+    def __init__(self, events, choice=None, is_timed=False):
+        self.calls, self.is_timed = calls_of(events), is_timed
         self.start = [[2 * event[1], 2 * event[2] + 1] for event in events if event[0] == "start"]
         self.returned = {(call.key, call.got) for call in self.calls if call.ending == "got"}
         self.choice = self.forced().choice if choice is None else choice
@@ -273,11 +273,11 @@ class Run:
 
     def candidates(self):
         """What each null read may have seen."""
-        return plain_forced.candidates(self.calls, self.started())
+        return plain_forced.candidates(self.calls, self.started(), self.is_timed)
 
     def forced(self):
         """What is forced of the null reads."""
-        return plain_forced.Forced(self.calls, self.started())
+        return plain_forced.Forced(self.calls, self.started(), self.is_timed)
 
     def is_forked(self, call):
         """Whether it is a lost write whose value was read, or a lost delete that a null read saw."""
@@ -307,10 +307,10 @@ class Run:
         return ["memory", sessions, *([self.start] if self.start else [])]
 
 
-def run_shown(events, form):
+def run_shown(events, form, is_timed):
     """The run by the forced choice, or by a part of it whose history has this form: where a write or a delete was lost, not all that is
     forced has to be found."""
-    run = Run(events)
+    run = Run(events, is_timed=is_timed)
     is_lossy = any(call.ending == "lost" and call.word != "r" for call in run.calls)
     for many in range(MOST_MISSED) if is_lossy and run.form() != form else ():
         for missed in itertools.combinations(run.choice, many + 1):
@@ -325,9 +325,9 @@ def text_of(value):
     return json.dumps(value, separators=(",", ":")) + "\n"
 
 
-def history_of(events):
-    """The history of some events in the form of `judge`."""
-    return Run(events).form()
+def history_of(events, is_timed):
+    """The history of some events in the form of `judge`, by the order of time or without it."""
+    return Run(events, is_timed=is_timed).form()
 
 
 def read_history(form):
@@ -335,9 +335,9 @@ def read_history(form):
     return reading.read_long(text_of(form).encode())
 
 
-def report_on(events):
+def report_on(events, is_timed):
     """The three lines of the history of some events; none where nothing is known of it."""
-    return report_of(history_of(events))
+    return report_of(history_of(events, is_timed))
 
 
 def report_of(form):
@@ -407,9 +407,10 @@ def main():
         sys.exit("refused {} {}".format(*found.refusal))
     sys.stderr.write(NOT_WHOLE * found.is_torn)
     if given.judge:
-        text = report_on(found.events)
+        text = report_on(found.events, found.is_timed)
     else:
-        text = text_of(names_of(found) if given.names else noted_lines(data, found) if given.notes else history_of(found.events))
+        some = names_of(found) if given.names else noted_lines(data, found) if given.notes else history_of(found.events, found.is_timed)
+        text = text_of(some)
     sys.stdout.write(text or sys.exit("values are not distinct"))
 
 

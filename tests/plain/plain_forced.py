@@ -1,7 +1,8 @@
 """Says what the reads of a log that found nothing must have seen, in a plain and slow way.
 
 A null read is a read that found nothing of a key that some delete names which did not fail. Its candidates are the start, where the key has
-none, and each such delete: the order of the lines of a log says nothing of time. A choice says of null reads which candidate each saw.
+none, and each such delete: the order of the lines of a log says nothing of time. Where it does, a delete that begins after the read had
+ended is none. A choice says of null reads which candidate each saw.
 
 The forced choice. A call comes before another, as far as is known,
 
@@ -12,8 +13,8 @@ The forced choice. A call comes before another, as far as is known,
 
 A candidate is out where the read comes before it, or where another write or delete of the key comes after it and before the read; the
 start is out where a write or a delete of the key comes before the read. This goes on until nothing more is found. A read with one
-candidate left saw that one. One with none left saw the first delete of its key, as far as a choice has to say, and no order explains
-that. Others are left out.
+candidate left saw that one. One with none left saw the first delete of its key, in the order of time the first one that began before the
+read had ended, or the start where there is none: as far as a choice has to say, and no order explains that. Others are left out.
 
 It knows nothing of the program, and follows docs/events.md. Calls are those of plain_events.py.
 """
@@ -34,11 +35,11 @@ def null_reads(calls):
     return [call for call in calls if call.ending == "nothing" and call.key in deleted]
 
 
-def candidates(calls, started):
+def candidates(calls, started, is_timed=False):
     """Of each null read, by the place of its begin, what it may have seen: the start, or a delete by the place of its begin."""
     found = {}
     for read in null_reads(calls):
-        deletes = [call.place for call in kept_deletes(calls) if call.key == read.key]
+        deletes = [call.place for call in kept_deletes(calls) if call.key == read.key and (call.place < read.end or not is_timed)]
         found[read.place] = deletes if read.key in started else [START, *deletes]
     return found
 
@@ -59,11 +60,11 @@ class Forced:
     """What is forced of the null reads of some calls: what is known to come before each call, the candidates that are left of each null
     read, and the choice. Calls have the numbers of their places in the list, and a set of them is a number with a bit for each."""
 
-    def __init__(self, calls, started):
+    def __init__(self, calls, started, is_timed=False):
         self.calls, self.reads = calls, null_reads(calls)
         self.number = {call.place: i for i, call in enumerate(calls)}
-        self.left, self.choice = candidates(calls, started), {}
-        self.first_delete = {call.key: call.place for call in reversed(kept_deletes(calls))}
+        self.left, self.choice = candidates(calls, started, is_timed), {}
+        self.first_delete = {read: next((seen for seen in left if seen is not START), START) for read, left in self.left.items()}
         self.writers = {}
         for i, call in enumerate(calls):
             if call.word != "r":
@@ -97,7 +98,7 @@ class Forced:
             left = [seen for seen in self.left[read.place] if not self.is_out(past, read, seen)]
             self.left[read.place] = left
             if len(left) < 2:
-                self.choose(read, left[0] if left else self.first_delete[read.key])
+                self.choose(read, left[0] if left else self.first_delete[read.place])
         return self.edges != known
 
     def choose(self, read, seen):

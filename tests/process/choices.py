@@ -1,21 +1,22 @@
 #!/usr/bin/env python3
 """Compares what is said of logs with deletes with all that reads which found nothing can have seen, and with what is forced of them.
 
-    python3 tests/process/choices.py SEED LOGS RUNS [--long] -- PROGRAM
+    python3 tests/process/choices.py SEED LOGS RUNS [--long] [--timed] -- PROGRAM
 
-- LOGS tiny logs (deleting_stores.py), each with a null read, a read that found nothing of a key that some delete names. What `judge` says
-  of each is compared with plain_choices.py. A `no` has to be one by every choice of what the null reads saw. Each line has to be that of
-  the history by the forced choice. What is a `no` where all null reads are left out has to stay one. One in a thousand logs may lack a
-  `no` of the forced choice, if a write or a delete was lost, since not all is found there, and one in a hundred of the runs below.
-- The cuts of every tenth of these, by `judge --every 1`: each `no` of a cut is one of the whole log too, unless a later call takes it
-  back, a write of what a read in the cut got or a delete of a key at which one found nothing.
+- LOGS tiny logs (deleting_stores.py), each with a null read, a read that found nothing of a key that some delete names. All are in the
+  order of time, and every other one says so, or all with `--timed`. What `judge` says of each is compared with plain_choices.py. A `no`
+  has to be one by every choice of what the null reads saw. Each line has to be that of the history by the forced choice. What is a `no`
+  where all null reads are left out has to stay one. One in 2,000 logs may lack a `no` of the forced choice, if a write or a delete was
+  lost, since not all is found there, and one in 500 of the runs below.
+- The cuts of every ninth of these, by `judge --every 1`, which are judged in the order of time: each `no` of a cut is one of each later
+  cut, and of the whole log judged in the order of time. The same by every choice of what the null reads saw.
 - The examples of plain_choices.py, which that program is tried on too.
-- RUNS runs of correct stores, of which none may be a `no`, and as many with each planted fault. Of the first 60 with a fault at least so
-  many have to be a `no` as the forced choice finds: the table FOUND. With `--long` each run is compared with the history by the forced
-  choice.
+- RUNS runs of correct stores, of which none may be a `no`, and as many with each planted fault, with the order of time and without it. Of
+  the first 60 with a fault at least so many have to be a `no` as the forced choice finds: the table FOUND. With `--long` each run is
+  compared with the history by the forced choice.
 
 It prints for each criterion how many logs are a `no` by every choice, with all null reads left out, by the forced choice and by the
-program.
+program, without the order of time and with it.
 """
 
 import argparse
@@ -37,10 +38,11 @@ from counting import end
 JUDGE = ["judge", "--long", "--events"]
 SECONDS, TOGETHER = 120, 100
 MOST_CHOICES, FIRST_CHOICES = 2_000, 50
-TABLE_RUNS, ENOUGH, CUT_OF = 60, 1_000, 10
-FOUND = {"lost write": 26, "evicted key": 27, "resurrected value": 21, "any replica": 19}
-MISSED, MISSED_OF, MISSED_RUNS_OF = "lack a no of the forced choice where a call was lost", 1_000, 100
-WAYS = ("every choice", "left out", "forced", "program")
+TABLE_RUNS, ENOUGH, CUT_OF = 60, 1_000, 9
+TIMED, ORDER = {False: "without the order of time", True: "in the order of time"}, b'["order","time"]\n'
+FOUND = {"lost write": (26, 34), "evicted key": (27, 38), "resurrected value": (21, 21), "any replica": (19, 24)}
+MISSED, MISSED_OF, MISSED_RUNS_OF = "lack a no of the forced choice where a call was lost", 2_000, 500
+WAYS = ("every choice", "the log without null reads", "the forced choice", "the program")
 SEEN = ("the start", "a delete", "more than one candidate", "no candidate", "a lost delete", "a pending delete")
 
 
@@ -109,12 +111,17 @@ def all_faults_of(forced, ways, said, counts):
         yield f"{criterion} {said.get(criterion)}, and no where all null reads are left out"
 
 
-def ways_of(events, forced):
-    """The criteria of which the history of some events is a `no`: by every choice, with null reads left out, and by the forced choice."""
+def no_by_all(events, forced, is_timed):
+    """The criteria that no choice meets of what the null reads of some events saw. Choices that are not out are tried first."""
     likely = itertools.islice(plain_choices.choices_of(forced.left), FIRST_CHOICES)
-    met = plain_choices.met_by_some(events, likely)
+    met = plain_choices.met_by_some(events, is_timed, likely)
+    return set() if met is None else set(CRITERIA) - met
+
+
+def ways_of(events, forced, is_timed):
+    """The criteria of which the history of some events is a `no`: by every choice, with null reads left out, and by the forced choice."""
     left_out, by_forced = plain_choices.kinds_by(events, {}), plain_choices.kinds_by(events, forced.choice)
-    return set(CRITERIA) - met, refusing(left_out), refusing(by_forced)
+    return no_by_all(events, forced, is_timed), refusing(left_out), refusing(by_forced)
 
 
 def seen_of(forced):
@@ -128,41 +135,52 @@ def seen_of(forced):
         yield from ["a lost delete"] * (left[0] in lost) + ["a pending delete"] * (left[0] in pending)
 
 
+def late_faults(events):
+    """What is wrong with some events that have to be in the order of time: a value that is read before its write begins."""
+    late = plain_events.late_write(events, 1, len(events))
+    return [f"not in the order of time: the read at {late[0]}, the write at {late[1]}"] if late else []
+
+
 def log_faults(log, said, counts):
     """What is wrong with what the program says of a tiny log. How often each thing came is counted."""
-    events = plain_events.read_log(log).events
-    forced = plain_events.Run(events, {}).forced()
-    ways = ways_of(events, forced)
-    counts["logs"] += 1
+    found = plain_events.read_log(log)
+    events, is_timed = found.events, found.is_timed
+    forced = plain_events.Run(events, {}, is_timed).forced()
+    ways = ways_of(events, forced, is_timed)
+    counts["logs", is_timed] += 1
     counts.update(seen_of(forced))
-    counts.update((way, criterion) for way, some in zip(WAYS, (*ways, said_no(said))) for criterion in some)
-    return list(all_faults_of(forced, ways, said, counts))
+    counts.update((way, is_timed, criterion) for way, some in zip(WAYS, (*ways, said_no(said))) for criterion in some)
+    return [*all_faults_of(forced, ways, said, counts), *late_faults(events)]
 
 
-def is_taken_back(events, many):
-    """Whether a call after the first events, so many, may take back a `no` of theirs."""
-    cut = plain_events.calls_of(events[:many])
-    missed = {call.key for call in cut if call.ending == "nothing"}
-    got = {(call.key, call.got) for call in cut if call.ending == "got"}
-    later = [call for call in plain_events.calls_of(events) if call.place >= many and call.ending != "failed" and call.word != "r"]
-    return any(call.key in missed if call.word == "d" else (call.key, call.value) in got for call in later)
+def cut_choice_faults(events):
+    """What is wrong with the cuts of some events by every choice: each `no` of a cut has to be one of the next cut."""
+    earlier = set()
+    for many in range(1, len(events) + 1):
+        some = no_by_all(events[:many], plain_events.Run(events[:many], {}, True).forced(), True)
+        if earlier - some:
+            yield f"{many - 1} events are a no by every choice for {earlier - some}, and {many} are none"
+        earlier = some
 
 
 def cut_faults(program, log, counts):
-    """What is wrong with what the program says of the cuts of a log."""
+    """What is wrong with what the program says of the cuts of a log, and with the cuts by every choice."""
     done = subprocess.run([*program, *JUDGE, "--every", "1"], input=log, capture_output=True, check=False, timeout=SECONDS)
     cuts = [line.partition(" ")[::2] for line in done.stdout.decode(errors="replace").splitlines()]
     refused = [(int(many), {text.split(" ")[0] for text in lines.split("; ") if " no " in text}) for many, lines in cuts]
-    events = plain_events.read_log(log).events
+    found = plain_events.read_log(log)
+    events = found.events
     if [many for many, _ in refused] != list(range(1, len(events) + 1)):
         yield f"cuts at {[many for many, _ in refused]}"
         return
-    for many, some in refused:
-        back = some - refused[-1][1]
+    yield from cut_choice_faults(events)
+    [whole] = lines_of(program, [log if found.is_timed else ORDER + log])
+    refused.append(("all", said_no(whole)))
+    for (many, some), (more, later) in itertools.pairwise(refused):
         counts["cuts"] += 1
-        counts["cuts with a no that a later call takes back"] += bool(back)
-        if back and not is_taken_back(events, many):
-            yield f"{many} events are a no for {back}, and the whole log is none"
+        counts["cuts with a no that a later one takes back"] += bool(some - later)
+        if some - later:
+            yield f"{many} events are a no for {some - later}, and {more} are none"
 
 
 def missed_faults(counts, many, share):
@@ -170,19 +188,19 @@ def missed_faults(counts, many, share):
     return [] if counts[MISSED] <= 1 + many // share else [f"{counts[MISSED]} of {many} logs {MISSED}"]
 
 
-def tiny_log(seed, number):
-    """A tiny log in which some read found nothing of a key that some delete names, with few choices."""
+def tiny_log(seed, number, is_timed):
+    """A tiny log in which some read found nothing of a key that some delete names, with few choices. It says the order of time or not."""
     rng = random.Random(f"{seed} {number}")
     while True:
         log = deleting_stores.tiny_log(rng).encode()
         found = plain_events.Run(plain_events.read_log(log).events, {}).candidates()
         if found and plain_choices.how_many(found) <= MOST_CHOICES:
-            return log
+            return ORDER * is_timed + log
 
 
 def tiny_faults(given, counts):
     """The faults of each tiny log, and of the examples of plain_choices.py, in which each kind of a null read comes."""
-    logs = [tiny_log(given.seed, number) for number in range(given.logs)]
+    logs = [tiny_log(given.seed, number, given.timed or number % 2 == 1) for number in range(given.logs)]
     logs += [plain_choices.log_of(*example.calls) for example in plain_choices.EXAMPLES.values()]
     for log, said in zip(logs, lines_of(given.program, logs)):
         wrong = log_faults(log, said, counts)
@@ -197,39 +215,42 @@ def tiny_faults(given, counts):
 
 def run_faults(log, said, counts):
     """What is wrong with what the program says of a run of a faulty store, by the forced choice."""
-    events = plain_events.read_log(log).events
-    forced = plain_events.Run(events, {}).forced()
-    return list(forced_faults(forced, refusing(plain_choices.kinds_by(events, forced.choice)), said, counts))
+    read = plain_events.read_log(log)
+    forced = plain_events.Run(read.events, {}, read.is_timed).forced()
+    return list(forced_faults(forced, refusing(plain_choices.kinds_by(read.events, forced.choice)), said, counts))
 
 
-def correct_faults(given):
+def correct_faults(given, is_timed):
     """The faults of each run of a correct store: what the store promises is met."""
     runs = [deleting_stores.store_log(seed) for seed in range(given.runs)]
-    for (text, promised), said in zip(runs, lines_of(given.program, [text.encode() for text, _ in runs])):
+    logs = [ORDER * is_timed + text.encode() for text, _ in runs]
+    for (_, promised), log, said in zip(runs, logs, lines_of(given.program, logs)):
         wrong = [f"{criterion} {said.get(criterion)}, which the store promises" for criterion in promised if said.get(criterion) != "yes"]
-        yield [kept(text.encode()), *wrong] if wrong else []
+        wrong += late_faults(plain_events.read_log(log).events)
+        yield [kept(log), *wrong] if wrong else []
 
 
-def planted_faults(given, fault):
+def planted_faults(given, fault, is_timed):
     """The faults of each run of a store with a planted fault, and of how many are found."""
     runs, found, counts = [deleting_stores.store_log(seed, fault) for seed in range(given.runs)], [], Counter()
-    logs = [text.encode() for text, _ in runs]
+    logs = [ORDER * is_timed + text.encode() for text, _ in runs]
     for (_, promised), log, said in zip(runs, logs, lines_of(given.program, logs)):
         found.append(bool(said_no(said) & set(promised)))
         wrong = run_faults(log, said, counts) if given.long else [] if set(said) == set(CRITERIA) else [f"it says {said}"]
         yield [kept(log), *wrong] if wrong else []
-    print(f"{fault}: {sum(found)} of {len(runs)} runs are a no", flush=True)
+    print(f"{fault}: {sum(found)} of {len(runs)} runs are a no {TIMED[is_timed]}, {counts[MISSED]} {MISSED}", flush=True)
     yield missed_faults(counts, given.runs, MISSED_RUNS_OF)
-    many = sum(found[:TABLE_RUNS])
-    yield [] if len(runs) < TABLE_RUNS or many >= FOUND[fault] else [f"{fault}: {many} of {TABLE_RUNS} runs are a no, due {FOUND[fault]}"]
+    many, due = sum(found[:TABLE_RUNS]), FOUND[fault][is_timed]
+    yield [] if len(runs) < TABLE_RUNS or many >= due else [f"{fault}: {many} of {TABLE_RUNS} runs are a no {TIMED[is_timed]}, due {due}"]
 
 
 def all_faults(given, counts):
     yield from plain_choices.faults_of_examples()
     yield from tiny_faults(given, counts)
-    yield from correct_faults(given)
-    for fault in deleting_stores.FAULTS:
-        yield from planted_faults(given, fault)
+    for is_timed in TIMED:
+        yield from correct_faults(given, is_timed)
+        for fault in deleting_stores.FAULTS:
+            yield from planted_faults(given, fault, is_timed)
 
 
 def main():
@@ -238,16 +259,18 @@ def main():
     parser.add_argument("logs", type=int)
     parser.add_argument("runs", type=int)
     parser.add_argument("--long", action="store_true")
+    parser.add_argument("--timed", action="store_true")
     given = with_program(parser)
     passed, failed, counts = 0, 0, Counter()
     for wrong in all_faults(given, counts):
         passed, failed = passed + (not wrong), failed + bool(wrong)
         if wrong:
             print(*wrong, sep="\n  ", flush=True)
-    for way in WAYS:
-        print(f"{counts['logs']} tiny logs are a no by {way}: " + ", ".join(f"{criterion} {counts[way, criterion]}" for criterion in CRITERIA))
+    for is_timed, way in itertools.product(TIMED, WAYS):
+        said = ", ".join(f"{criterion} {counts[way, is_timed, criterion]}" for criterion in CRITERIA)
+        print(f"{counts['logs', is_timed]} tiny logs {TIMED[is_timed]} are a no by {way}: {said}")
     print(f"{counts[MISSED]} tiny logs {MISSED}")
-    for what in ("cuts", "cuts with a no that a later call takes back"):
+    for what in ("cuts", "cuts with a no that a later one takes back"):
         print(f"{counts[what]:8} {what}")
     for what in SEEN:
         print(f"{counts[what]:8} null reads see {what}")

@@ -237,7 +237,8 @@ def wanted_of_log(path):
     if path.stem in LOGGED:
         words, errors = LOGGED[path.stem]
         yield ["judge", "--long", "--events"], report_of(words), errors
-        yield ["events"], plain_events.text_of(plain_events.history_of(plain_events.read_log(path.read_bytes()).events)), errors
+        found = plain_events.read_log(path.read_bytes())
+        yield ["events"], plain_events.text_of(plain_events.history_of(found.events, found.is_timed)), errors
         for words, shown in shown_beside(path):
             yield [words[0], "--long", "--events", *words[1:]], shown, errors
 

@@ -149,7 +149,7 @@ def due_of(program, data, found):
     written, wrong = answer(program, ["events"], data, found)
     if found.refusal:
         return Due("", None), wrong
-    run = plain_events.run_shown(found.events, json.loads(plain_of(written) or "[]"))
+    run = plain_events.run_shown(found.events, json.loads(plain_of(written) or "[]"), found.is_timed)
     text = plain_events.text_of(run.form())
     if written != text:
         wrong.append(f"events: {written!r}, due {text!r}")
@@ -188,7 +188,7 @@ def cut_lines_due(program, found, every, expected):
     that is refused: after a cut that has so many events as were asked for, the log may go on."""
     written, many = "", 0
     for many in cuts_of(found, every):
-        lines = lines_due(program, plain_events.history_of(found.events[:many]))
+        lines = lines_due(program, plain_events.history_of(found.events[:many], True))
         written += f"{many} {joined(lines)}\n"
         if status := status_due(lines, expected):
             return written, status, many, many % every > 0

@@ -232,7 +232,8 @@ def read_form(form):
         options = [["--long"], *([[]] if reading.is_small(start, sessions) else [])]
         return json.dumps(form).encode(), options, form, len(form[1])
     data = b"".join(json.dumps(event).encode() + b"\n" for event in form)
-    run = plain_events.Run(plain_events.read_log(data).events)
+    read = plain_events.read_log(data)
+    run = plain_events.Run(read.events, is_timed=read.is_timed)
     return data, [["--long", "--events"]], run.form(), len(run.origins) - len(run.forks)
 
 

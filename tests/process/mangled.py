@@ -287,9 +287,9 @@ def is_line(answer, due):
     return f"{answer}\n" == due[2] if due[0] == 1 else reading.REPORT.fullmatch(answer.replace("; ", "\n") + "\n") is not None
 
 
-def is_report_on(events, text):
-    """Whether a text is the report on some events, or, where the plain judge knows none, any report."""
-    return reading.REPORT.fullmatch(text) is not None and text == (plain_events.report_on(events) or text)
+def is_report_on(events, is_timed, text):
+    """Whether a text is the report on some events, by the order of time or without it, or, where the plain judge knows none, any report."""
+    return reading.REPORT.fullmatch(text) is not None and text == (plain_events.report_on(events, is_timed) or text)
 
 
 def is_right_of_cuts(order, read, found):
@@ -298,7 +298,7 @@ def is_right_of_cuts(order, read, found):
     cuts = plain_events.cuts_of(read, order["--every"])
     for many, line in itertools.zip_longest(cuts, written.splitlines()):
         number, _, answer = (line or "").partition(" ")
-        if number != str(many) or not is_report_on(read.events[:many], answer.replace("; ", "\n") + "\n"):
+        if number != str(many) or not is_report_on(read.events[:many], True, answer.replace("; ", "\n") + "\n"):
             return False
         if unmet := status_of(order, [answer]):
             hint = plain_events.EXPLAINED_CUT if status == unmet == 5 else ""
@@ -318,10 +318,10 @@ def is_right_of_log(order, data, found):
         return plain_events.is_said(read, errors) and (status, written) == (1, "")
     if order["command"] == "events":
         told = json.loads(written)
-        due = plain_events.names_of(read) if "--names" in order else plain_events.run_shown(read.events, told).form()
+        due = plain_events.names_of(read) if "--names" in order else plain_events.run_shown(read.events, told, read.is_timed).form()
         return status == 0 and json.dumps(told) == json.dumps(due)
     if order["command"] == "judge":
-        return is_report_on(read.events, written) and status == status_of(order, ["; ".join(written.splitlines())])
+        return is_report_on(read.events, read.is_timed, written) and status == status_of(order, ["; ".join(written.splitlines())])
     return status == 0 and is_reason(order, written)
 
 

@@ -29,10 +29,10 @@ const MAX_COUNTS: u64 = 268_435_456;
 ///
 /// Not all that is forced is found: the calls are gone over at most eight times, a lost write or delete counts as one that replaces others
 /// only until more is known of its client, and nothing is found where the writes and deletes, or the clients, times the clients are more
-/// than 2^28.
+/// than 2^28, and of a read that more than 1,024 deletes of its key are candidates of.
 ///
 /// Fails for want of memory alone. O(n k) for n calls and k clients, and for each null read O(k log n + d (k + log n)) for d deletes of
-/// its key. It takes 4 k bytes for each write, delete and client. A log in which no read got nothing takes O(n) and no memory.
+/// its key. It takes 4 k bytes for each write, delete and client. A log in which no read got nothing, or without deletes, takes O(n) and no memory.
 pub fn forced_reads(alloc: Global, log: &EventLog, in_time: bool) -> Result<Table<Seen>, AllocError>
     ensures rising { IfOk result (λ table. IsRising table) }
     ensures forced { IfOk result (λ table. IsForcedChoice in_time log.now (choice_in table)) }
@@ -53,7 +53,8 @@ pub fn forced_reads(alloc: Global, log: &EventLog, in_time: bool) -> Result<Tabl
     Ok(found.seen)
 }
 
-/// Whether some read got nothing, and the counts of what comes before the writes and the clients' calls are not too many.
+/// Whether some read got nothing and some delete did not fail, and the counts of what comes before the writes and the clients' calls are not
+/// too many.
 fn is_within_limits(log: &EventLog) -> bool {
     let clients = u64::from(log.clients());
     let writes = log
@@ -62,6 +63,7 @@ fn is_within_limits(log: &EventLog) -> bool {
         .filter(|call| is_write(call.call()))
         .count();
     log.calls().iter().any(|call| call.missed_key().is_some())
+        && log.calls().iter().any(|call| call.deleted_key().is_some())
         && (writes as u64).max(clients).saturating_mul(clients) <= MAX_COUNTS
 }
 

@@ -18,6 +18,12 @@ use crate::forced_plan::{Plan, is_started};
 use crate::timed::Timed;
 use std::alloc::{AllocError, Global};
 
+/// The most candidates of a read that are looked at.
+const MOST_DELETES: usize = 1024;
+
+/// How many of the last ones are looked at first.
+const LAST_DELETES: usize = 4;
+
 /// A read that got nothing.
 #[derive(Clone, Copy)]
 pub(crate) struct NullRead {
@@ -58,11 +64,44 @@ impl Plan {
         if deletes.is_empty() {
             return Ok(None);
         }
+        if self.is_open(timed, deletes, read, past) {
+            return Ok(None);
+        }
         let replacing = self.replacing(alloc, timed, read, past)?;
         let left = self.left_of(timed, deletes, read, &replacing);
         let is_start_left = self.is_start_left(timed, read, &replacing);
         let first = first_possible(timed, deletes, read);
         Ok(look_of(left, is_start_left, first))
+    }
+
+    /// Whether a look at the deletes of the key would cost too much, or is sure to leave two of them. O(log n) for n writes.
+    fn is_open(&self, timed: &Timed<'_>, deletes: &[Delete], read: NullRead, past: &[u32]) -> bool {
+        let possible = if timed.in_time {
+            deletes.partition_point(|delete| delete.place < read.end)
+        } else {
+            deletes.len()
+        };
+        let first = possible.saturating_sub(LAST_DELETES);
+        let mut left = 0u32;
+        for number in first..possible {
+            if let Some(delete) = deletes.get(number)
+                && self.is_apart(*delete, read, past)
+            {
+                left = left.saturating_add(1);
+            }
+        }
+        left > 1 || possible > MOST_DELETES
+    }
+
+    /// Whether a delete is known to come neither before a read nor after it.
+    fn is_apart(&self, delete: Delete, read: NullRead, past: &[u32]) -> bool {
+        match self.write_at(delete.place) {
+            Some(write) => {
+                let known = write.past.get(read.client as usize).copied().unwrap_or(0);
+                !precedes(write, past) && known <= read.place && write.client != read.client
+            }
+            None => false,
+        }
     }
 
     /// Whether a read can have seen the start: the key has none, and no write or delete of the key comes before the read. O(log n) for n
