@@ -33,7 +33,7 @@ import plain_choices
 import plain_events
 import plain_forced
 from command_words import CRITERIA, with_program
-from counting import end
+from counting import counted_faults, end
 
 JUDGE = ["judge", "--long", "--events"]
 SECONDS, TOGETHER = 120, 100
@@ -261,11 +261,8 @@ def main():
     parser.add_argument("--long", action="store_true")
     parser.add_argument("--timed", action="store_true")
     given = with_program(parser)
-    passed, failed, counts = 0, 0, Counter()
-    for wrong in all_faults(given, counts):
-        passed, failed = passed + (not wrong), failed + bool(wrong)
-        if wrong:
-            print(*wrong, sep="\n  ", flush=True)
+    counts = Counter()
+    passed, failed = counted_faults(all_faults(given, counts))
     for is_timed, way in itertools.product(TIMED, WAYS):
         said = ", ".join(f"{criterion} {counts[way, is_timed, criterion]}" for criterion in CRITERIA)
         print(f"{counts['logs', is_timed]} tiny logs {TIMED[is_timed]} are a no by {way}: {said}")

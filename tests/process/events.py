@@ -39,7 +39,7 @@ import pictures
 import plain_events
 import random_logs
 from command_words import CRITERIA, with_program
-from counting import end
+from counting import counted_faults, end
 from patterns import AGAINST, MemoryHistory, is_pattern, shows
 from plain_events import EXPLAINED_CUT, cuts_of, is_harmless, is_said
 from streams import is_unproved
@@ -517,11 +517,8 @@ def main():
     parser.add_argument("--threads", type=int, default=os.cpu_count() or 2)
     parser.add_argument("--long", action="store_true")
     given = with_program(parser)
-    passed, failed, seen = 0, 0, Counter()
-    for wrong in all_faults(given, seen):
-        passed, failed = passed + (not wrong), failed + bool(wrong)
-        if wrong:
-            print(*wrong, sep="\n  ", flush=True)
+    seen = Counter()
+    passed, failed = counted_faults(all_faults(given, seen))
     for what, times in sorted(seen.items()):
         print(f"{times:8} {what}")
     end(passed, failed)

@@ -34,6 +34,16 @@ def counted(cases):
     return passed, failed
 
 
+def counted_faults(faults):
+    """How many cases passed and how many failed: of each case what is wrong, or nothing. What is wrong is printed."""
+    passed = failed = 0
+    for wrong in faults:
+        passed, failed = passed + (not wrong), failed + bool(wrong)
+        if wrong:
+            print(*wrong, sep="\n  ", flush=True)
+    return passed, failed
+
+
 def end_after(cases):
     """Counts cases, and ends the process."""
     end(*counted(cases))
