@@ -20,8 +20,6 @@ mod forced_looks;
 mod forced_pass;
 mod forced_pasts;
 mod forced_plan;
-#[cfg(test)]
-mod forced_tests;
 pub mod laws;
 mod left_out;
 mod lost_calls;
@@ -29,8 +27,6 @@ mod null_reads;
 mod origins;
 mod seen;
 mod sessions;
-#[cfg(test)]
-mod tests;
 mod timed;
 
 pub use chosen_history::{history_by, no_choice_leaves_null_reads_out, origins_by};
