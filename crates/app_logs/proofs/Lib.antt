@@ -7,3 +7,4 @@ pub mod LogLineLaws
 pub mod TextListLaws
 pub mod LogTextLaws
 pub mod ReportLaws
+pub mod WitnessLaws

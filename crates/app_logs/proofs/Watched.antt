@@ -192,11 +192,11 @@ module _ (every : ℕ) (expected : Expected) (first written : Option (List ℕ))
     written = Appends-trans written writer_before writer_after watched.said (cut_line (length new.log.events) cut.1.report) watched.written cut.1.written;
   }
 
-  -- what is known of a late write is no part of what was watched
-  pub watched-with : (source_after writer_after : Option (List ℕ)) (followed : Followed) (late : Option LateWrite)
+  -- what is known of a late write, and of the first line, is no part of what was watched
+  pub watched-with : (source_after writer_after : Option (List ℕ)) (followed : Followed) (late : Option LateWrite) (says_order : Bool)
       → WatchesLog every expected first source_after written writer_after followed
-      → WatchesLog every expected first source_after written writer_after (record { outcome = followed.outcome; torn = followed.torn; late = late })
-  watched-with source_after writer_after followed late (inl all) = inl record {
+      → WatchesLog every expected first source_after written writer_after (record { outcome = followed.outcome; torn = followed.torn; late = late; says_order = says_order })
+  watched-with source_after writer_after followed late says_order (inl all) = inl record {
     log = all.log;
     cuts = all.cuts;
     text = all.text;
@@ -206,7 +206,7 @@ module _ (every : ℕ) (expected : Expected) (first written : Option (List ℕ))
     lines = all.lines;
     written = all.written;
   }
-  watched-with source_after writer_after followed late (inr front) = inr record {
+  watched-with source_after writer_after followed late says_order (inr front) = inr record {
     log = front.log;
     count = front.count;
     text = front.text;

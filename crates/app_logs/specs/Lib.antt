@@ -1,6 +1,7 @@
 pub mod Failure
 pub mod Reports
-pub mod ReadsLeftOut
+pub mod NullReadCounts
+pub mod Witnesses
 pub mod ReadLogs
 pub mod Notes
 pub mod TextLists

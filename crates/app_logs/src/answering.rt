@@ -64,6 +64,7 @@ pub(crate) fn answer_log<P: Threads + Wait + Sync + AllocGlobal, R: Source, W: S
         outcome: answer.outcome,
         torn,
         late: None,
+        says_order: false,
     })
 }
 

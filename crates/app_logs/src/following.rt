@@ -27,6 +27,8 @@ pub struct Followed {
     pub torn: bool,
     /// With `every` in the order, a write that begins only after a cut at which a read had returned its value, if one was read.
     pub late: Option<LateWrite>,
+    /// With `every` in the order, whether the log's first line says that its events stand in the order of time.
+    pub says_order: bool,
 }
 
 /// What becomes of the rest of a log where the judging ends early.

@@ -22,7 +22,8 @@ pub(crate) fn forced_in(
 ) -> Result<Table<Seen>, AllocError>
     ensures { IfOk result (IsForcedIn in_time log.now) }
 {
-    forced_reads(alloc, log, in_time)
+    let forced = forced_reads(alloc, log, in_time)?;
+    Ok(forced.seen)
 }
 
 /// The history of a log by what null reads saw, and without those of which that is not known.

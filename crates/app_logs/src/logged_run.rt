@@ -12,27 +12,29 @@ ghost use Rattle.app_logs.specs.LogAnswers.{IsLogAnswerBy, IsLogError};
 ghost use Rattle.app_logs.specs.LogTexts.{AreCallLines, AreNames};
 ghost use Rattle.app_logs.specs.ReadCalls.{ReadsWholeBy};
 ghost use Rattle.app_logs.specs.Reports.{IsForcedIn, IsReportBy};
+ghost use Rattle.app_logs.specs.Witnesses.{AreWitnesses};
 
 use crate::answering::answer_of_report;
 use crate::failure::LogError;
-use crate::forced_history::{forced_in, history_as_seen};
+use crate::forced_history::history_as_seen;
 use crate::line_numbers::lines_text;
 use crate::noting::notes_text;
 use crate::reading::{WholeLog, read_log};
+use crate::witnesses::{ForcedLog, witnesses_of};
 use crate::writing::{history_text, names_text};
 use app_engine::{
     Answered, Findings, PieceWork, RunError, SessionWork, explained_as, list_in_long,
     report_on_long,
 };
-use app_orders::{LogJudging, LogOrder};
+use app_orders::{LogJudging, LogOrder, LongForm};
 use json_lines::Source;
 use judge_memory::LongHistory;
-use log_choices::{Seen, left_out_by, origins_by};
+use log_choices::{ForcedReads, LackingRead, Seen, forced_reads, left_out_by, origins_by};
 use log_events::LoggedCall;
 use log_reader::EventReader;
 use model_objects::Table;
 use order_causal::Rows;
-use show_log_names::LogNames;
+use show_log_names::{LogNames, Witnesses};
 use std::alloc::{AllocError, Global};
 use std::marker::Model;
 
@@ -45,12 +47,14 @@ pub struct LoggedRun {
     pub(crate) reader: EventReader,
     torn: bool,
     /// What null reads saw, as far as it is forced.
-    saw: Table<Seen>,
+    pub(crate) saw: Table<Seen>,
     history: LongHistory,
     /// For each session of the history, the calls that its operations represent.
     pub(crate) calls: Rows<LoggedCall>,
     /// The keys with reads that are left out, each with the number of these reads.
     pub(crate) left_out: Vec<(u32, u32)>,
+    /// The first null read that is left with no candidate, if there is one.
+    pub(crate) lacking: Option<LackingRead>,
 }
 
 impl Model for LoggedRun {
@@ -61,7 +65,7 @@ impl Model for LoggedRun {
 
     ghost view = { λ run. record { log = run.reader.log; torn = run.torn; saw = run.saw } };
 
-    ghost invariant = { λ run. KeepsRun run.reader.log.events run.saw run.history run.calls };
+    ghost invariant = { λ run. KeepsRun run.reader.log run.saw run.history run.calls run.lacking };
 }
 
 impl LoggedRun {
@@ -100,7 +104,11 @@ impl LoggedRun {
         ensures forced { IfOk result (λ run. IsForcedIn run.log.in_time run.log.events run.saw) }
     {
         let WholeLog { reader, torn } = whole;
-        let saw = forced_in(alloc, reader.log(), reader.is_in_time())?;
+        let ForcedReads {
+            seen: saw,
+            first_lacking: lacking,
+            ..
+        } = forced_reads(alloc, reader.log(), reader.is_in_time())?;
         let history = history_as_seen(alloc, reader.log(), &saw)?;
         let calls = origins_by(alloc, reader.log(), &saw)?;
         let left_out = left_out_by(alloc, reader.log(), &saw)?;
@@ -111,6 +119,7 @@ impl LoggedRun {
             history,
             calls,
             left_out,
+            lacking,
         })
     }
 
@@ -141,11 +150,17 @@ impl LoggedRun {
         match order {
             LogOrder::Judge(judging) => self.judged(work, alloc, *judging),
             LogOrder::Explain(form) => {
-                let names = LogNames { tables: self };
+                let names = LogNames {
+                    tables: self,
+                    witnesses: self.witnesses_for(work, alloc, *form)?,
+                };
                 Ok(Answered::met(explained_as(work, alloc, history, &names, *form)?))
             }
             LogOrder::ListFaults(most, form) => {
-                let names = LogNames { tables: self };
+                let names = LogNames {
+                    tables: self,
+                    witnesses: Witnesses::unwanted(),
+                };
                 Ok(Answered::met(list_in_long(work, alloc, history, &names, *most, *form)?))
             }
             LogOrder::WriteHistory => Ok(Answered::met(history_text(alloc, history)?)),
@@ -168,6 +183,44 @@ impl LoggedRun {
     {
         let report = self.report(work, alloc)?;
         answer_of_report(alloc, report, judging)
+    }
+
+    /// What is known of orders that explain every read of the log, those too that its history leaves out, for each criterion with a yes in
+    /// the report on it. Nothing is looked for where no read is left out.
+    ///
+    /// Fails for want of memory alone, at the cost of the report, and of one more for each walk over the log that is tried.
+    pub fn witnesses<W: SessionWork>(&self, work: &W, alloc: Global) -> Result<Witnesses, RunError>
+        requires { W.can_work work.now }
+        ensures found { IfOk result (AreWitnesses self.now.log.in_time self.now.log.events) }
+        ensures error { IfErr result (λ e. e ≡ RunError.Memory) }
+    {
+        if self.left_out.is_empty() {
+            return Ok(Witnesses::unwanted());
+        }
+        let report = self.report(work, alloc)?;
+        let log = ForcedLog {
+            log: self.reader.log(),
+            in_time: self.reader.is_in_time(),
+            forced: &self.saw,
+        };
+        witnesses_of(work, alloc, log, &report)
+    }
+
+    // The same, where a form of an explanation shows it.
+    fn witnesses_for<W: SessionWork>(
+        &self,
+        work: &W,
+        alloc: Global,
+        form: LongForm,
+    ) -> Result<Witnesses, RunError>
+        requires { W.can_work work.now }
+        ensures found { IfOk result (AreWitnesses self.now.log.in_time self.now.log.events) }
+        ensures error { IfErr result (λ e. e ≡ RunError.Memory) }
+    {
+        match form {
+            LongForm::Words => self.witnesses(work, alloc),
+            LongForm::Json | LongForm::Picture => Ok(Witnesses::unwanted()),
+        }
     }
 
     // The report on the log.

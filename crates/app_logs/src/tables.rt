@@ -8,6 +8,7 @@ ghost use Rattle.show_log_names.specs.TableNames.{IsNameAt};
 
 use crate::logged_run::LoggedRun;
 use json_histories::OpId;
+use log_choices::LackingRead;
 use log_reader::{EventReader, Names, Note};
 use show_log_names::{CallNote, LogTables, StoodFor};
 use std::alloc::{AllocError, Global};
@@ -88,5 +89,13 @@ impl LogTables for LoggedRun {
 
     fn left_out(&self) -> &[(u32, u32)] {
         self.left_out.as_slice()
+    }
+
+    fn asked(&self) -> u64 {
+        self.saw.len() as u64
+    }
+
+    fn lacking(&self) -> Option<&LackingRead> {
+        self.lacking.as_ref()
     }
 }

@@ -36,6 +36,7 @@ pub(crate) fn turn_of(outcome: Outcome) -> Turn
             outcome,
             torn: false,
             late: None,
+            says_order: false,
         }),
     }
 }

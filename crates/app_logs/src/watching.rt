@@ -64,10 +64,15 @@ pub(crate) fn watch_log<K: SessionWork, R: Source, W: Sink>(
     let watched = watch_from(watch, &mut reader, &mut ends, source, writer);
     tell(watch.alloc, &reader, &watched, details);
     let late = ends.late_write(watch.alloc, &reader);
+    let says_order = reader.is_in_time();
     drop(ends);
     drop(reader);
     match watched {
-        Ok(followed) => Ok(Followed { late, ..followed }),
+        Ok(followed) => Ok(Followed {
+            late,
+            says_order,
+            ..followed
+        }),
         Err(error) => Err(error),
     }
 }
@@ -188,6 +193,7 @@ impl<K: SessionWork> Watch<'_, K> {
                     outcome,
                     torn,
                     late: None,
+                    says_order: false,
                 }))
             }
         }

@@ -74,6 +74,7 @@ pub fn page_of_log<P: Threads + Wait + Sync + AllocGlobal, R: Source, W: Sink>(
         outcome: Outcome::Met,
         torn: page.torn,
         late: None,
+        says_order: false,
     })
 }
 

@@ -2,7 +2,7 @@
 
 ghost use Rattle.std.specs.Prelude.{◌≡◌};
 
-use app_logs::reads_left_out;
+use app_logs::NullReadCounts;
 use judge_memory::{LongEntry, LongHistory};
 use judge_reader::read_long;
 use log_events::{ClientCall, Ending, EventLog};
@@ -20,8 +20,8 @@ pub(crate) struct RunCounts {
     reads: u64,
     lost: u64,
     failed: u64,
-    /// Reads that were answered, but that no write can be named for.
-    idle_reads: u64,
+    /// Reads that found nothing at keys that some delete names, by how many possible sources they have.
+    null_reads: NullReadCounts,
     /// The keys of all calls, and the pairs of key and value that were written.
     keys: Vec<u64>,
     pairs: Vec<(u64, u64)>,
@@ -36,7 +36,11 @@ impl RunCounts {
             reads: 0,
             lost: 0,
             failed: 0,
-            idle_reads: 0,
+            null_reads: NullReadCounts {
+                one: 0,
+                several: 0,
+                none: 0,
+            },
             keys: Vec::new(alloc),
             pairs: Vec::new(alloc),
         }
@@ -55,18 +59,20 @@ impl RunCounts {
         self.pairs.sort()?;
         let keys = distinct(self.keys.as_slice());
         let repeated = repeated(self.pairs.as_slice());
+        let sources = sources_words(alloc, self.null_reads)?;
         format!(in alloc;
             "clients {}, calls {}, writes {}, reads answered {}, lost {}, failed {}, reads that ask nothing {}, keys {}, \
-             values that repeat {}",
+             values that repeat {}{}",
             self.clients,
             self.calls,
             self.writes,
             self.reads,
             self.lost,
             self.failed,
-            self.idle_reads,
+            self.null_reads.several,
             keys,
-            repeated
+            repeated,
+            sources.as_str()
         )
     }
 
@@ -113,8 +119,8 @@ impl RunCounts {
     }
 }
 
-/// The counts of the run that a log records. The bytes are those of a log that was read before. It was judged in the order of time where it
-/// was judged while it was read (`is_watched`), or says that it stands in it.
+/// The counts of the run that a log records, whose bytes were read before. Its events stand in the order of time where its first line says
+/// so, and where it was judged while it was read (`is_watched`).
 pub(crate) fn counts_of_log(alloc: Global, bytes: &[u8], is_watched: bool) -> Option<RunCounts> {
     let mut reader = EventReader::new(alloc).ok()?;
     let mut source = bytes;
@@ -137,7 +143,7 @@ fn counted_log(alloc: Global, log: &EventLog, in_time: bool) -> Result<RunCounts
         }
         counts.add_ending(call.ending());
     }
-    counts.idle_reads = reads_left_out(alloc, log, in_time)?;
+    counts.null_reads = NullReadCounts::of(alloc, log, in_time)?;
     Ok(counts)
 }
 
@@ -157,6 +163,17 @@ fn counted_history(alloc: Global, history: &LongHistory) -> Result<RunCounts, Al
         }
     }
     Ok(counts)
+}
+
+// What is said of reads that found nothing at keys that some delete names, where there are any.
+fn sources_words(alloc: Global, counts: NullReadCounts) -> Result<String, AllocError> {
+    let NullReadCounts { one, several, none } = counts;
+    if one == 0 && several == 0 && none == 0 {
+        return Ok(String::new(alloc));
+    }
+    format!(in alloc;
+        ", reads that found nothing at deleted keys: with one possible source {one}, several {several}, none {none}"
+    )
 }
 
 // How many different numbers a sorted list has.

@@ -20,7 +20,11 @@ use Rattle.log_choices.specs.declared.forced_kept.Kept.{Kept}
 use Rattle.log_choices.specs.declared.forced_kept.Delete.{Delete}
 use Rattle.log_choices.specs.declared.forced_looks.Left.{Left}
 use Rattle.log_choices.specs.declared.forced_looks.Left.TheVariants.{NoneLeft, OneLeft, MoreLeft}
+use Rattle.log_choices.specs.declared.forced_looks.Look.TheVariants.{Lacks}
 use Rattle.log_choices.specs.declared.forced_looks.NullRead.{NullRead}
+use Rattle.log_choices.specs.declared.seen.Seen.{Seen}
+use Rattle.log_choices.specs.declared.seen.Seen.TheVariants.{Start, Delete as SeenDelete}
+use Rattle.log_choices.specs.ChoiceTables.{seen_of}
 
 module _ (in_time : Bool) (es : List Event) where
   -- a write or delete that did not fail is one of its key
@@ -105,6 +109,27 @@ module _ (in_time : Bool) (es : List Event) where
               let after = timed.1 in
               absurd (omega arith)
 
+      -- where the start is out and all deletes are, the read counts as one that saw this candidate, if there is any
+      lacks-from : All (λ (d : Delete). IsExcluded in_time es read.place read.end d.place) deletes
+          → (false ≡ false → IsCandidate in_time es read.key read.end None → IsOut in_time es read.place None) → (s : Seen)
+          → IsCandidate in_time es read.key read.end (seen_of s) ⊎ ((d : Option ℕ) → ¬ IsCandidate in_time es read.key read.end d)
+          → IsLook in_time es read.place (Lacks s)
+      lacks-from outs out s candidate = (
+        record {
+          client = read.client;
+          key = read.key;
+          ends = read.end;
+          null = null-read q kept;
+          candidate = candidate;
+          others = λ d may other. each d may;
+        },
+        (read.client, read.key, read.end, null-read q kept, each),
+      )
+        where
+          each : (c : Option ℕ) → IsCandidate in_time es read.key read.end c → IsOut in_time es read.place c
+          each None may = out refl may
+          each (Some p) may = all-out outs p may
+
       pub look-from : (left : Left) (b : Bool) → IsLeft in_time es read.place read.end deletes left
           → (b ≡ true → (k v : ℕ) → ¬ IsAt es k (Starts read.key v))
           → (b ≡ false → IsCandidate in_time es read.key read.end None → IsOut in_time es read.place None)
@@ -121,30 +146,9 @@ module _ (in_time : Bool) (es : List Event) where
           others : (d : Option ℕ) → IsCandidate in_time es read.key read.end d → d ≢ None → IsOut in_time es read.place d
           others None candidate other = absurd (other refl)
           others (Some p) candidate other = all-out outs p candidate
-      look-from NoneLeft false outs start out (Some first) (there, timed) = record {
-        client = read.client;
-        key = read.key;
-        ends = read.end;
-        null = null-read q kept;
-        candidate = inl (listed first there, timed);
-        others = λ d candidate other. each d candidate;
-      }
-        where
-          each : (c : Option ℕ) → IsCandidate in_time es read.key read.end c → IsOut in_time es read.place c
-          each None candidate = out refl candidate
-          each (Some p) candidate = all-out outs p candidate
-      look-from NoneLeft false outs start out None late = record {
-        client = read.client;
-        key = read.key;
-        ends = read.end;
-        null = null-read q kept;
-        candidate = start-if-any late;
-        others = λ d candidate other. each d candidate;
-      }
-        where
-          each : (c : Option ℕ) → IsCandidate in_time es read.key read.end c → IsOut in_time es read.place c
-          each None candidate = out refl candidate
-          each (Some p) candidate = all-out outs p candidate
+      look-from NoneLeft false outs start out (Some first) (there, timed) =
+          lacks-from outs out (SeenDelete first.place) (inl (listed first there, timed))
+      look-from NoneLeft false outs start out None late = lacks-from outs out Start (start-if-any late)
       look-from (OneLeft e) false (there, timed, outs) start out first within = record {
         client = read.client;
         key = read.key;

@@ -27,6 +27,7 @@ use Rattle.log_choices.specs.ChoiceTables.{seen_of}
 use Rattle.log_choices.specs.Forced.{Comes, only_left, returned}
 use Rattle.log_choices.specs.ForcedSteps.{AreForcedReads, AreFoundBelow, ArePasts, IsKeptWrite, IsLeftWith, IsLook, IsPast}
 use Rattle.log_choices.specs.ForcedSteps.{GetsNothing, IsAnswered, IsPastFrom, IsPlan, writing}
+use Rattle.log_choices.specs.declared.forced_looks.Look.TheVariants.{Saw}
 use Rattle.log_choices.specs.declared.forced_looks.NullRead.{NullRead}
 use Rattle.log_choices.specs.declared.forced_kept.Kept.{Kept}
 use Rattle.log_choices.specs.declared.forced_plan.Plan.{Plan}
@@ -76,7 +77,7 @@ module _ (in_time : Bool) (es : List Event) where
   seen-comes r p left = only_left left.client left.key left.ends left.null left.others
 
   -- what an earlier pass has found
-  pub look-earlier : (table : List (ℕ × Seen)) (r : ℕ) (s : Seen) → AreForcedReads in_time es table → Some s ≡ value_at table r → IsLook in_time es r (Some s)
+  pub look-earlier : (table : List (ℕ × Seen)) (r : ℕ) (s : Seen) → AreForcedReads in_time es table → Some s ≡ value_at table r → IsLook in_time es r (Saw s)
   look-earlier table r s forced is = entry-of in_time es table r (seen_of s) forced.seen (ap (option_map seen_of) (sym is))
 
   -- a write comes before a read that got its value

@@ -29,6 +29,7 @@ pub mod ForcedKept
 pub mod ForcedDeletes
 pub mod ForcedStarts
 pub mod ForcedLooks
+pub mod Excluding
 pub mod ForcedFound
 pub mod ForcedReadsLaws
 pub mod ForcedPasses

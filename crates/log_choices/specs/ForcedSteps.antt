@@ -1,6 +1,6 @@
 -- What the pass over a log that finds what is forced keeps.
 use Rattle.std.specs.Prelude.{◌≡◌, ◌≢◌, ◌⊎◌, ⊤, ◌<◌, ◌≤◌, ℕ, suc, Bool, true, false, List, All, IsTrue, Option, Some, None, option_map}
-use Rattle.std.specs.Prelude.{slice_get, slice_index, IsSortedByKey, Contains}
+use Rattle.std.specs.Prelude.{slice_get, slice_index, IfSome, IsSortedByKey, Contains}
 use Rattle.std.specs.Ordering.{nat_cmp}
 use Rattle.std.specs.declared.vec.Vec.{Vec}
 use Rattle.model_objects.specs.Table.{IsRising}
@@ -15,12 +15,16 @@ use Rattle.log_events.specs.Events.{Call, IsAt, IsEnded}
 use Rattle.log_events.specs.Steps.CallKinds.{deleted_key}
 use Rattle.log_choices.specs.Choices.{BeginsKeptDelete, IsCandidate, IsNullRead}
 use Rattle.log_choices.specs.ChoiceTables.{seen_of}
-use Rattle.log_choices.specs.Forced.{Comes, IsOut}
+use Rattle.log_choices.specs.Exclusions.{IsLackingRead}
+use Rattle.log_choices.specs.Forced.{Comes, IsOut, LacksCandidates}
 use Rattle.log_choices.specs.declared.forced_kept.Kept.{Kept}
 use Rattle.log_choices.specs.declared.forced_kept.Delete.{Delete}
 use Rattle.log_choices.specs.declared.forced_looks.NullRead.{NullRead}
+use Rattle.log_choices.specs.declared.forced_lacking.Lacking.{Lacking}
 use Rattle.log_choices.specs.declared.forced_looks.Left.{Left}
 use Rattle.log_choices.specs.declared.forced_looks.Left.TheVariants.{NoneLeft, OneLeft, MoreLeft}
+use Rattle.log_choices.specs.declared.forced_looks.Look.{Look}
+use Rattle.log_choices.specs.declared.forced_looks.Look.TheVariants.{Open, Saw, Lacks}
 use Rattle.log_choices.specs.declared.forced_plan.Plan.{Plan}
 use Rattle.log_choices.specs.declared.seen.Seen.{Seen}
 use Rattle.log_choices.specs.declared.seen.Seen.TheVariants.{Start, Delete as SeenDelete}
@@ -49,15 +53,14 @@ abbrev pub IsFirst : Bool → ℕ → List Delete → Option Delete → Type 0
 IsFirst in_time j deletes None = All (λ d. IsTrue in_time × (j ≤ d.place)) deletes
 IsFirst in_time j deletes (Some d) = Contains deletes d × (IsTrue in_time → d.place < j)
 
--- what a null read must have seen, by which deletes are left, whether the start is, and that first delete; or none, where more than one is
--- left
-abbrev pub look_by : Left → Bool → Option Delete → Option Seen
-look_by NoneLeft true first = Some Start
-look_by NoneLeft false None = Some Start
-look_by NoneLeft false (Some d) = Some (SeenDelete d.place)
-look_by (OneLeft d) false first = Some (SeenDelete d.place)
-look_by (OneLeft d) true first = None
-look_by MoreLeft b first = None
+-- what a null read must have seen, by which deletes are left, whether the start is, and that first delete
+abbrev pub look_by : Left → Bool → Option Delete → Look
+look_by NoneLeft true first = Saw Start
+look_by NoneLeft false None = Lacks Start
+look_by NoneLeft false (Some d) = Lacks (SeenDelete d.place)
+look_by (OneLeft d) false first = Saw (SeenDelete d.place)
+look_by (OneLeft d) true first = Open
+look_by MoreLeft b first = Open
 
 -- some of these deletes, of one key
 abbrev pub AreOfKey : List Delete → ℕ → List Delete → Type 0
@@ -131,9 +134,15 @@ module _ (in_time : Bool) (es : List Event) where
     pub others : (d : Option ℕ) → IsCandidate in_time es key ends d → d ≢ c → IsOut in_time es r d
 
   -- what is found of the read that begins at the place r, if anything is
-  abbrev pub IsLook : ℕ → Option Seen → Type 0
-  IsLook r None = ⊤
-  IsLook r (Some seen) = IsLeftWith r (seen_of seen)
+  abbrev pub IsLook : ℕ → Look → Type 0
+  IsLook r Open = ⊤
+  IsLook r (Saw seen) = IsLeftWith r (seen_of seen)
+  IsLook r (Lacks seen) = IsLeftWith r (seen_of seen) × LacksCandidates in_time es r
+
+  -- null reads that are left with no candidate, and why one of them is
+  pub record AreLacking (lacking : Lacking) : Type 0 where
+    pub places : All (LacksCandidates in_time es) lacking.places.items
+    pub first : IfSome lacking.first (IsLackingRead in_time es)
 
   -- what is found of some null reads, by the places of their begins
   pub record AreForcedReads (table : List (ℕ × Seen)) : Type 0 where

@@ -2,6 +2,7 @@ pub mod Choices
 pub mod ChosenHistories
 pub mod ChosenCriteria
 pub mod Forced
+pub mod Exclusions
 pub mod TimedLogs
 pub mod Effects
 pub mod ChoiceTables

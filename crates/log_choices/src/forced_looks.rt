@@ -1,6 +1,6 @@
 //! What a null read can have seen, by what is known to come before it.
 
-ghost use Rattle.std.specs.Prelude.{◌≡◌, ◌≢◌, ◌<◌, ◌≤◌, ◌*◌, ℕ, suc, List, All, Contains, IfOk, IsTrue, OnOk, Some, None};
+ghost use Rattle.std.specs.Prelude.{◌≡◌, ◌≢◌, ◌<◌, ◌≤◌, ◌*◌, ℕ, suc, List, All, Contains, IfOk, IfSome, IsTrue, OnOk, Some, None};
 ghost use Rattle.std.specs.Prelude.{false, slice_get};
 ghost use Rattle.log_events.specs.declared.event.Event.TheVariants.{Starts};
 ghost use Rattle.log_events.specs.Events.{IsAt};
@@ -35,6 +35,17 @@ pub(crate) struct NullRead {
     pub(crate) key: u32,
 }
 
+/// What a look at a read that got nothing shows.
+#[derive(Clone, Copy)]
+pub(crate) enum Look {
+    /// More than one candidate may be left, or no delete names the key.
+    Open,
+    /// One thing alone is left, which the read saw.
+    Saw(Seen),
+    /// Nothing is left. The read counts as one that saw this.
+    Lacks(Seen),
+}
+
 /// Which deletes are left of some.
 #[derive(Clone, Copy)]
 pub(crate) enum Left {
@@ -44,8 +55,7 @@ pub(crate) enum Left {
 }
 
 impl Plan {
-    /// What a read that got nothing must have seen, by what is known to come before it: the start or a delete that alone is left, or any of
-    /// them where nothing is left. `None` where more than one candidate is left, and where no delete names the key.
+    /// What a read that got nothing must have seen, by what is known to come before it.
     ///
     /// Fails for want of memory alone. O(k log n + d (k + log n)) for n writes, k clients and d deletes of the key.
     pub(crate) fn look(
@@ -54,7 +64,7 @@ impl Plan {
         timed: &Timed<'_>,
         read: NullRead,
         past: &[u32],
-    ) -> Result<Option<Seen>, AllocError>
+    ) -> Result<Look, AllocError>
         requires plan { IsPlan timed.now.in_time timed.now.log.now self.now }
         requires read { GetsNothing timed.now.log.now read }
         requires past { IsPast timed.now.in_time timed.now.log.now past.now read.place }
@@ -62,10 +72,10 @@ impl Plan {
     {
         let deletes = self.deletes_of(read.key);
         if deletes.is_empty() {
-            return Ok(None);
+            return Ok(Look::Open);
         }
         if self.is_open(timed, deletes, read, past) {
-            return Ok(None);
+            return Ok(Look::Open);
         }
         let replacing = self.replacing(alloc, timed, read, past)?;
         let left = self.left_of(timed, deletes, read, &replacing);
@@ -124,7 +134,7 @@ impl Plan {
     /// known to come before, if it is one.
     ///
     /// Fails for want of memory alone. O(k log n) for n writes and k clients.
-    fn replacing(
+    pub(crate) fn replacing(
         &self,
         alloc: Global,
         timed: &Timed<'_>,
@@ -212,7 +222,7 @@ impl Plan {
         left
     }
 
-    /// Whether a read can't have seen a delete: it is out, or begins after the read had ended.
+    /// Whether a read can't have seen a delete.
     fn is_excluded(
         &self,
         timed: &Timed<'_>,
@@ -228,49 +238,39 @@ impl Plan {
         ensures excluded { IsTrue result → IsExcluded timed.now.in_time timed.now.log.now read.place read.end delete.place }
         ensures possible { result ≡ false → IsTrue timed.now.in_time → delete.place < read.end }
     {
-        if !is_possible(timed, delete, read) {
-            return true;
-        }
-        self.is_out(timed, delete, read, replacing)
-    }
-
-    /// Whether a read can't have seen a delete: the delete comes after the read, or one of these writes and deletes has replaced it.
-    fn is_out(&self, timed: &Timed<'_>, delete: Delete, read: NullRead, replacing: &[u32]) -> bool
-        requires plan { IsPlan timed.now.in_time timed.now.log.now self.now }
-        requires read { GetsNothing timed.now.log.now read }
-        requires listed { Contains self.now.deletes.items delete }
-        requires key { delete.key ≡ read.key }
-        requires replacing { All (IsReplacing timed.now.in_time timed.now.log.now self.now.writes.items read.key read.place) replacing.now }
-        ensures { IsTrue result → IsOut timed.now.in_time timed.now.log.now read.place (Some delete.place) }
-    {
-        match self.write_at(delete.place) {
-            Some(write) => follows(timed, write, read) || self.is_replaced(timed, write, replacing),
+        match self.reason(timed, delete, read, replacing) {
+            Some(_) => true,
             None => false,
         }
     }
 
-    /// Whether one of some writes and deletes, by their numbers, is known to come after a write.
-    fn is_replaced(&self, timed: &Timed<'_>, write: &Kept, by: &[u32]) -> bool
+    /// The place of the first of some writes and deletes, by their numbers, that is known to come after a write.
+    pub(crate) fn replaced_by(
+        &self,
+        timed: &Timed<'_>,
+        write: &Kept,
+        by: &[u32],
+    ) -> Option<u32>
         requires plan { IsPlan timed.now.in_time timed.now.log.now self.now }
         requires write { IsKeptWrite timed.now.in_time timed.now.log.now write.now }
-        ensures { IsTrue result → (number : ℕ) × (w : Written) × Contains by.now number
-            × (slice_get self.now.writes.items number ≡ Some w) × (w.place ≢ write.now.place)
-            × Comes timed.now.in_time timed.now.log.now write.now.place w.place }
+        ensures { IfSome result (λ place. (number : ℕ) × (w : Written) × Contains by.now number
+            × (slice_get self.now.writes.items number ≡ Some w) × (w.place ≡ place) × (place ≢ write.now.place)
+            × Comes timed.now.in_time timed.now.log.now write.now.place place) }
     {
         for number in by {
             if let Some(other) = self.writes.get(*number as usize)
                 && other.place != write.place
                 && precedes(write, &other.past)
             {
-                return true;
+                return Some(other.place);
             }
         }
-        false
+        None
     }
 }
 
 /// Whether a delete begins before a read had ended, where that counts.
-fn is_possible(timed: &Timed<'_>, delete: Delete, read: NullRead) -> bool
+pub(crate) fn is_possible(timed: &Timed<'_>, delete: Delete, read: NullRead) -> bool
     ensures possible { IsTrue result → IsTrue timed.now.in_time → delete.place < read.end }
     ensures late { result ≡ false → IsTrue timed.now.in_time × (read.end ≤ delete.place) }
 {
@@ -289,22 +289,24 @@ fn first_possible(timed: &Timed<'_>, deletes: &[Delete], read: NullRead) -> Opti
     None
 }
 
-/// What a read that got nothing must have seen, by which deletes are left, whether the start is, and the first delete that is possible.
-fn look_of(left: Left, is_start_left: bool, first: Option<Delete>) -> Option<Seen>
+/// What a read that got nothing must have seen, by which deletes are left, whether the start is, and the first delete that is possible:
+/// where nothing is left, that delete or the start.
+fn look_of(left: Left, is_start_left: bool, first: Option<Delete>) -> Look
     ensures { result ≡ look_by left is_start_left first }
 {
     match left {
+        Left::NoneLeft if is_start_left => Look::Saw(Seen::Start),
         Left::NoneLeft => match first {
-            Some(delete) if !is_start_left => Some(Seen::Delete(delete.place)),
-            _ => Some(Seen::Start),
+            Some(delete) => Look::Lacks(Seen::Delete(delete.place)),
+            None => Look::Lacks(Seen::Start),
         },
-        Left::OneLeft(delete) if !is_start_left => Some(Seen::Delete(delete.place)),
-        _ => None,
+        Left::OneLeft(delete) if !is_start_left => Look::Saw(Seen::Delete(delete.place)),
+        _ => Look::Open,
     }
 }
 
 /// Whether a write or delete is known to come after a read.
-fn follows(timed: &Timed<'_>, write: &Kept, read: NullRead) -> bool
+pub(crate) fn follows(timed: &Timed<'_>, write: &Kept, read: NullRead) -> bool
     requires write { IsKeptWrite timed.now.in_time timed.now.log.now write.now }
     requires read { GetsNothing timed.now.log.now read }
     ensures { IsTrue result → Comes timed.now.in_time timed.now.log.now read.place write.now.place }

@@ -1,28 +1,34 @@
 //! A pass over the calls of a log that finds what is forced.
 
-ghost use Rattle.std.specs.Prelude.{◌≡◌, ◌↔◌, ◌⊎◌, ◌<◌, ◌≤◌, ◌+◌, ◌*◌, [], ℕ, All, Contains, IfOk, IfSome, IsTrue, OnOk, Some};
+ghost use Rattle.std.specs.Prelude.{◌≡◌, ◌↔◌, ◌⊎◌, ◌<◌, ◌≤◌, ◌+◌, ◌*◌, [], ℕ, All, Bool, Contains, IfOk, IfSome, IsTrue, List, OnOk, Some};
 ghost use Rattle.std.specs.Prelude.{slice_get, vec_len};
 ghost use Rattle.log_events.specs.declared.event.ClientCall.TheVariants.{ReadOf};
 ghost use Rattle.log_events.specs.declared.event.Ending.TheVariants.{Got, GotNothing, Failed, Lost};
 ghost use Rattle.log_events.specs.Events.{run_calls};
-ghost use Rattle.log_choices.specs.ForcedSteps.{AreForcedReads, AreFoundBelow, ArePasts};
-ghost use Rattle.log_choices.specs.ForcedSteps.{GetsNothing, IsAnswered, IsLook, IsPast, IsPastFrom, IsPlan};
+ghost use Rattle.log_events.specs.declared.event.Event.{Event as Happened};
+ghost use Rattle.log_choices.specs.ChoiceTables.{seen_of};
+ghost use Rattle.log_choices.specs.ForcedSteps.{AreForcedReads, AreFoundBelow, AreLacking, ArePasts};
+ghost use Rattle.log_choices.specs.ForcedSteps.{GetsNothing, IsAnswered, IsLeftWith, IsLook, IsPast, IsPastFrom, IsPlan};
 
 use crate::Seen;
 use crate::forced_kept::Kept;
-use crate::forced_looks::NullRead;
+use crate::forced_lacking::Lacking;
+use crate::forced_looks::{Look, NullRead};
 use crate::forced_pasts::{follow, raise};
 use crate::forced_plan::Plan;
 use crate::timed::Timed;
 use log_events::{ClientCall, Ending, EventLog, LoggedCall};
 use model_objects::Table;
 use std::alloc::{AllocError, Global};
+use std::mem;
 
-/// What a pass has found.
+/// What passes have found.
 #[derive(Drop)]
 pub(crate) struct Found {
     /// What null reads saw that are left with at most one candidate, by the places of their begins.
     pub(crate) seen: Table<Seen>,
+    /// Those that are left with none.
+    pub(crate) lacking: Lacking,
     /// Whether more is known than before of what comes before a write, as before the first pass.
     pub(crate) has_grown: bool,
 }
@@ -30,32 +36,36 @@ pub(crate) struct Found {
 impl Found {
     /// Nothing, and no pass was made.
     pub(crate) fn nothing(alloc: Global) -> Found
-        ensures { result.seen ≡ [] }
+        ensures seen { result.seen ≡ [] }
+        ensures lacking { (in_time : Bool) (es : List Happened) → AreLacking in_time es result.lacking }
     {
         Found {
             seen: Table::new(alloc),
+            lacking: Lacking::none(alloc),
             has_grown: true,
         }
     }
 }
 
-/// One pass over the calls, in the order of their begins, with what an earlier one has found. It puts into the plan what it comes to know
-/// of what comes before the writes.
+/// One pass over the calls, in the order of their begins, with what the earlier ones have found. It puts into the plan what it comes to
+/// know of what comes before the writes.
 ///
 /// Fails for want of memory alone. O(n k) for n calls and k clients, and for each null read what [`Plan::look`] takes.
 pub(crate) fn pass(
     alloc: Global,
     timed: &Timed<'_>,
     plan: &mut Plan,
-    earlier: &Table<Seen>,
-) -> Result<Found, AllocError>
+    found: &mut Found,
+) -> Result<(), AllocError>
     requires plan { IsPlan timed.now.in_time timed.now.log.now plan.old }
-    requires earlier { AreForcedReads timed.now.in_time timed.now.log.now earlier.now }
+    requires seen { AreForcedReads timed.now.in_time timed.now.log.now found.old.seen }
+    requires lacking { AreLacking timed.now.in_time timed.now.log.now found.old.lacking }
     ensures plan { OnOk result (IsPlan timed.now.in_time timed.now.log.now plan.new) }
-    ensures found { IfOk result (λ found. AreForcedReads timed.now.in_time timed.now.log.now found.seen) }
+    ensures seen { OnOk result (AreForcedReads timed.now.in_time timed.now.log.now found.new.seen) }
+    ensures lacking { OnOk result (AreLacking timed.now.in_time timed.now.log.now found.new.lacking) }
 {
     let mut pasts = nothing_known(alloc, timed)?;
-    let mut found = Found::nothing(alloc);
+    let earlier = mem::replace(&mut found.seen, Table::new(alloc));
     found.has_grown = false;
     for call in timed.log.calls() {
         let client = call.client() as usize;
@@ -66,12 +76,12 @@ pub(crate) fn pass(
                 plan,
                 call,
                 &mut pasts[client],
-                earlier,
-                &mut found,
+                &earlier,
+                found,
             )?;
         }
     }
-    Ok(found)
+    Ok(())
 }
 
 /// For each client that nothing is known to come before its first call.
@@ -105,9 +115,11 @@ fn advance(
     requires past { IsPastFrom timed.now.in_time timed.now.log.now call.now.client call.now.place past.old }
     requires earlier { AreForcedReads timed.now.in_time timed.now.log.now earlier.now }
     requires found { AreFoundBelow timed.now.in_time timed.now.log.now call.now.place found.old.seen }
+    requires lacking { AreLacking timed.now.in_time timed.now.log.now found.old.lacking }
     ensures plan { OnOk result (IsPlan timed.now.in_time timed.now.log.now plan.new) }
     ensures past { OnOk result (IsPastFrom timed.now.in_time timed.now.log.now call.now.client (call.now.place + 1) past.new) }
     ensures found { OnOk result (AreFoundBelow timed.now.in_time timed.now.log.now (call.now.place + 1) found.new.seen) }
+    ensures lacking { OnOk result (AreLacking timed.now.in_time timed.now.log.now found.new.lacking) }
 {
     match call.call() {
         ClientCall::ReadOf(_) => look_back(alloc, timed, plan, call, past, earlier, found)?,
@@ -155,9 +167,11 @@ fn look_back(
     requires past { IsPast timed.now.in_time timed.now.log.now past.old call.now.place }
     requires earlier { AreForcedReads timed.now.in_time timed.now.log.now earlier.now }
     requires found { AreFoundBelow timed.now.in_time timed.now.log.now call.now.place found.old.seen }
+    requires lacking { AreLacking timed.now.in_time timed.now.log.now found.old.lacking }
     ensures past { OnOk result (IsPast timed.now.in_time timed.now.log.now past.new call.now.place) }
     ensures unread { OnOk result (past.new ≡ past.old ⊎ IsAnswered call.now.ending) }
     ensures found { OnOk result (AreFoundBelow timed.now.in_time timed.now.log.now (call.now.place + 1) found.new.seen) }
+    ensures lacking { OnOk result (AreLacking timed.now.in_time timed.now.log.now found.new.lacking) }
 {
     // It opens the log, so that its calls are known to be small.
     let _calls = timed.log.calls();
@@ -167,8 +181,8 @@ fn look_back(
         }
         (ClientCall::ReadOf(key), Some(Ending::GotNothing)) => {
             if let Some(read) = null_read(timed.log, call, key) {
-                let seen = seen_by(alloc, timed, plan, read, past, earlier)?;
-                put_down(timed, plan, read, seen, past, found)?;
+                let look = seen_by(alloc, timed, plan, read, past, earlier)?;
+                put_down(alloc, timed, plan, read, look, past, found)?;
             }
         }
         _ => {}
@@ -228,7 +242,7 @@ fn seen_by(
     read: NullRead,
     past: &[u32],
     earlier: &Table<Seen>,
-) -> Result<Option<Seen>, AllocError>
+) -> Result<Look, AllocError>
     requires plan { IsPlan timed.now.in_time timed.now.log.now plan.now }
     requires read { GetsNothing timed.now.log.now read }
     requires past { IsPast timed.now.in_time timed.now.log.now past.now read.place }
@@ -236,7 +250,7 @@ fn seen_by(
     ensures { IfOk result (IsLook timed.now.in_time timed.now.log.now read.place) }
 {
     match earlier.get(read.place) {
-        Some(seen) => Ok(Some(*seen)),
+        Some(seen) => Ok(Look::Saw(*seen)),
         None => plan.look(alloc, timed, read, past),
     }
 }
@@ -245,28 +259,58 @@ fn seen_by(
 ///
 /// Fails for want of memory alone.
 fn put_down(
+    alloc: Global,
     timed: &Timed<'_>,
     plan: &Plan,
     read: NullRead,
-    seen: Option<Seen>,
+    look: Look,
     past: &mut [u32],
     found: &mut Found,
 ) -> Result<(), AllocError>
     requires plan { IsPlan timed.now.in_time timed.now.log.now plan.now }
     requires read { GetsNothing timed.now.log.now read }
-    requires seen { IsLook timed.now.in_time timed.now.log.now read.place seen }
+    requires look { IsLook timed.now.in_time timed.now.log.now read.place look }
+    requires past { IsPast timed.now.in_time timed.now.log.now past.old read.place }
+    requires found { AreFoundBelow timed.now.in_time timed.now.log.now read.place found.old.seen }
+    requires lacking { AreLacking timed.now.in_time timed.now.log.now found.old.lacking }
+    ensures past { OnOk result (IsPast timed.now.in_time timed.now.log.now past.new read.place) }
+    ensures found { OnOk result (AreFoundBelow timed.now.in_time timed.now.log.now (read.place + 1) found.new.seen) }
+    ensures lacking { OnOk result (AreLacking timed.now.in_time timed.now.log.now found.new.lacking) }
+{
+    match look {
+        Look::Open => Ok(()),
+        Look::Saw(seen) => put_seen(timed, plan, read, seen, past, found),
+        Look::Lacks(seen) => {
+            found.lacking.add(alloc, timed, plan, read, past)?;
+            put_seen(timed, plan, read, seen, past, found)
+        }
+    }
+}
+
+/// The same where that is known.
+///
+/// Fails for want of memory alone.
+fn put_seen(
+    timed: &Timed<'_>,
+    plan: &Plan,
+    read: NullRead,
+    seen: Seen,
+    past: &mut [u32],
+    found: &mut Found,
+) -> Result<(), AllocError>
+    requires plan { IsPlan timed.now.in_time timed.now.log.now plan.now }
+    requires seen { IsLeftWith timed.now.in_time timed.now.log.now read.place (seen_of seen) }
     requires past { IsPast timed.now.in_time timed.now.log.now past.old read.place }
     requires found { AreFoundBelow timed.now.in_time timed.now.log.now read.place found.old.seen }
     ensures past { OnOk result (IsPast timed.now.in_time timed.now.log.now past.new read.place) }
     ensures found { OnOk result (AreFoundBelow timed.now.in_time timed.now.log.now (read.place + 1) found.new.seen) }
+    ensures lacking { found.new.lacking ≡ found.old.lacking }
 {
-    if let Some(seen) = seen {
-        found.seen.push(read.place, seen)?;
-        if let Seen::Delete(place) = seen
-            && let Some(write) = plan.write_at(place)
-        {
-            follow(past, write);
-        }
+    found.seen.push(read.place, seen)?;
+    if let Seen::Delete(place) = seen
+        && let Some(write) = plan.write_at(place)
+    {
+        follow(past, write);
     }
     Ok(())
 }
@@ -284,7 +328,8 @@ fn keep(
     requires plan { IsPlan timed.now.in_time timed.now.log.now plan.old }
     requires past { IsPast timed.now.in_time timed.now.log.now past.now call.now.place }
     ensures plan { OnOk result (IsPlan timed.now.in_time timed.now.log.now plan.new) }
-    ensures found { found.new.seen ≡ found.old.seen }
+    ensures seen { found.new.seen ≡ found.old.seen }
+    ensures lacking { found.new.lacking ≡ found.old.lacking }
 {
     let number = plan.number_at(call.place());
     if number < plan.writes.len()

@@ -88,7 +88,7 @@ impl Plan {
         u32::try_from(self.number_at(place)).ok()
     }
 
-    /// The write of a value to a key. O(log n) for n writes.
+    /// The write of a value to a key, unless several write it. O(log n) for n writes.
     pub(crate) fn write_of(&self, key: u32, value: u32) -> Option<&Kept>
         ensures { IfSome result (λ w. Contains self.now.writes.items w.now × (w.now.key ≡ key) × (w.now.value ≡ Some value)) }
     {
@@ -96,6 +96,11 @@ impl Plan {
             .values
             .partition_point(|valued| (valued.key, valued.value) < (key, value));
         let valued = self.values.get(at)?;
+        if let Some(next) = self.values.get(at.saturating_add(1))
+            && (next.key, next.value) == (key, value)
+        {
+            return None;
+        }
         let write = self.writes.get(valued.number as usize)?;
         if write.key == key && write.value == Some(value) {
             Some(write)

@@ -1,2 +1,3 @@
 pub mod OperationLines
 pub mod TableNames
+pub mod Witnesses

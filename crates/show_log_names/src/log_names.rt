@@ -5,17 +5,17 @@ ghost use Rattle.log_reader.specs.EventLines.{line_at};
 ghost use Rattle.show_log_names.specs.OperationLines.{is_of_lost_call, number_name, operation_name, role};
 
 use crate::log_tables::{LogTables, StoodFor};
+use crate::lacking_words::lacking_words;
+use crate::left_out_words::{MAX_KEYS, left_out_words};
 use crate::notes::with_notes;
 use crate::phrases::{
     call_label, call_words, client_name, fork_label, fork_words, key_words, lost_call, value_name,
 };
+use crate::witnesses::Witnesses;
 use log_events::{ClientCall, Ending};
 use model_history::OpId;
 use show_words::{Names, counted, listed};
 use std::alloc::{AllocError, Global};
-
-/// The most keys that are listed by name.
-const MAX_KEYS: usize = 8;
 
 /// The names that a log has, for the history that it represents.
 ///
@@ -24,6 +24,8 @@ const MAX_KEYS: usize = 8;
 #[derive(Clone, Copy)]
 pub struct LogNames<'a, T: LogTables> {
     pub tables: &'a T,
+    /// What is known of the reads that the history leaves out.
+    pub witnesses: Witnesses,
 }
 
 /// What a number of a value represents.
@@ -86,18 +88,12 @@ impl<'a, T: LogTables> Names for LogNames<'a, T> {
     }
 
     fn push_remarks(&self, alloc: Global, lines: &mut Vec<String>) -> Result<(), AllocError> {
-        let left_out = self.tables.left_out();
-        if left_out.is_empty() {
-            return Ok(());
+        if let Some(words) = lacking_words(alloc, self.tables)? {
+            lines.push(words)?;
         }
-        let mut keys = Vec::new(alloc);
-        let mut reads: u64 = 0;
-        for (key, count) in left_out {
-            keys.push(*key)?;
-            reads = reads.saturating_add(u64::from(*count));
+        if let Some(words) = left_out_words(alloc, self.tables, self.witnesses)? {
+            lines.push(words)?;
         }
-        let named = listed_keys(alloc, self.tables, &keys)?;
-        lines.push(left_out_words(alloc, reads, keys.len(), &named)?)?;
         Ok(())
     }
 
@@ -326,36 +322,4 @@ fn session_of_number<T: LogTables>(
         Ok(client) if session < tables.clients() => session_of_client(alloc, tables, client),
         _ => format!(in alloc; "session {session}"),
     }
-}
-
-// The first 8 keys of a log by their names, and how many more there are.
-fn listed_keys<T: LogTables>(
-    alloc: Global,
-    tables: &T,
-    keys: &[u32],
-) -> Result<String, AllocError> {
-    let mut named = Vec::new(alloc);
-    for key in keys.iter().take(MAX_KEYS) {
-        named.push(key_words(alloc, tables, *key)?)?;
-    }
-    listed(alloc, &named, keys.len().saturating_sub(MAX_KEYS))
-}
-
-// What is said of reads that are left out, at this many keys.
-fn left_out_words(
-    alloc: Global,
-    reads: u64,
-    keys: usize,
-    listed: &str,
-) -> Result<String, AllocError> {
-    let (ending, saw, they) = if reads == 1 {
-        ("", "delete it", "it asks")
-    } else {
-        ("s", "deletes they", "they ask")
-    };
-    let are = if keys == 1 { "is" } else { "are" };
-    format!(in alloc;
-        "{reads} read{ending} found nothing at {listed}, which {are} deleted at some time. \
-         Which {saw} saw, if any, is not known: {they} nothing."
-    )
 }

@@ -1,13 +1,15 @@
 //! What is known of the operations of a log's history, and of its names.
 
-ghost use Rattle.std.specs.Prelude.{◌≡◌, List, option_map, IfOk, string_bytes};
+ghost use Rattle.std.specs.Prelude.{◌≡◌, List, option_map, IfOk, IfSome, string_bytes};
 ghost use Rattle.log_events.specs.Events.{Call};
 ghost use Rattle.log_events.specs.Histories.{clients as clients_in};
+ghost use Rattle.log_choices.specs.Exclusions.{IsLackingRead};
 ghost use Rattle.log_reader.specs.EventLines.{line_at};
 ghost use Rattle.log_reader.specs.Logs.{Log};
 ghost use Rattle.show_log_names.specs.OperationLines.{origin_of, stood_for as stood_for_call};
 ghost use Rattle.show_log_names.specs.TableNames.{IsNameAt};
 
+use log_choices::LackingRead;
 use log_events::{ClientCall, Ending};
 use model_history::OpId;
 use std::alloc::{AllocError, Global};
@@ -74,4 +76,11 @@ pub trait LogTables {
 
     /// The keys at which reads found nothing and are left out of the history, each with the number of these reads.
     fn left_out(&self) -> &[(u32, u32)];
+
+    /// How many reads that found nothing at such keys stand in the history, since one thing alone can be what they saw.
+    fn asked(&self) -> u64;
+
+    /// The first read that found nothing, though nothing is left that it can have seen, if there is such a read.
+    fn lacking(&self) -> Option<&LackingRead>
+        ensures { IfSome result (λ read. IsLackingRead (log self.now).in_time (log self.now).events read.now) };
 }

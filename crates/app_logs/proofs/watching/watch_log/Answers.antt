@@ -20,7 +20,7 @@ pub returns-in-Ok-clause-watched : goal.returns-in-Ok-clause-watched
 returns-in-Ok-clause-watched g c =
     watched-with c.args.watch.now.every c.args.watch.now.expected (g.R.Source.remaining c.args.source.now) (g.W.Sink.contents c.args.writer.now)
     (g.R.Source.remaining c.watch_from-watched.new.source) (g.W.Sink.contents c.watch_from-watched.new.writer) c.in-Ok.followed
-    c.late_write-late.result
+    c.late_write-late.result c.is_in_time-says_order.result
     (subst (λ (r : Result _ _). IfOk r (WatchesLog c.args.watch.now.every c.args.watch.now.expected (g.R.Source.remaining c.args.source.now)
     (g.R.Source.remaining c.watch_from-watched.new.source) (g.W.Sink.contents c.args.writer.now) (g.W.Sink.contents c.watch_from-watched.new.writer)))
     c.in-Ok.is c.watch_from-watched.ensures.watched)

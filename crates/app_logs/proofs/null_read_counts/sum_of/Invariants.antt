@@ -1,6 +1,6 @@
 use Rattle.std.proofs.Common.{◌≡◌, ℕ, take}
 use Rattle.std.specs.List.{sum_by}
-use Rattle.app_logs.proofs.left_out.sum_of.Given as goal
+use Rattle.app_logs.proofs.null_read_counts.sum_of.Given as goal
 
 -- the sum of the counts so far
 abbrev pub invariant-loop-entry : goal.invariant-loop-entry
