@@ -92,9 +92,9 @@ def client(user, setting):
             yield from (delete(user, key) if rng.random() < setting.deletes else user.write(key))
 
 
-def run_of(setting, rng):
-    """The log of a run, and how often the fault showed."""
-    simulation, log = Simulation(), Log()
+def run_of(setting, rng, log=None):
+    """The log of a run, and how often the fault showed. The log that is given chooses the values."""
+    simulation, log = Simulation(), log or Log()
     store = FaultyReplicas(setting, simulation, rng)
     for number in range(setting.clients):
         simulation.start(client(User(store, log, number % setting.kind.replicas, ""), setting))
@@ -119,11 +119,11 @@ def store_log(seed, fault=""):
     raise SystemExit(f"no run of seed {seed} shows {fault}")
 
 
-def small_log(rng):
-    """The log of a small run of a store, which may be faulty, with few calls."""
+def small_log(rng, log=None):
+    """The log of a small run of a store, which may be faulty, with few calls. The log that is given chooses the values."""
     fault = rng.choice(("", *FAULTS))
     setting = Setting(rng.choice(KINDS), rng.randint(2, 4), rng.randint(2, 4), rng.randint(1, 2), rng.choice((0.2, 0.4, 0.6)), fault, 0.5)
-    return run_of(setting, rng)[0]
+    return run_of(setting, rng, log)[0]
 
 
 class Anything:

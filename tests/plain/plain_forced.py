@@ -7,7 +7,7 @@ ended is none. A choice says of null reads which candidate each saw.
 The forced choice. A call comes before another, as far as is known,
 
 - in a session, where the first one neither failed nor was lost;
-- where the other one got the value that the first one wrote;
+- where the other one got the value that the first one wrote, and no other write of the key wrote it;
 - where the other one is a null read with one candidate left, and the first one is that delete;
 - and through a third call.
 
@@ -76,14 +76,14 @@ class Forced:
                 pass
 
     def first_edges(self):
-        """Of each call what comes before it in its session, and the write whose value it got."""
+        """Of each call what comes before it in its session, and the one write whose value it got."""
         edges, answered, writes = [], {}, {}
         for i, call in enumerate(self.calls):
             if call.word == "w" and call.ending != "failed":
                 writes[call.key, call.value] = writes.get((call.key, call.value), 0) | 1 << i
         for i, call in enumerate(self.calls):
-            source = writes.get((call.key, call.got), 0) if call.ending == "got" else 0
-            edges.append(answered.get(call.client, 0) | source)
+            sources = writes.get((call.key, call.got), 0) if call.ending == "got" else 0
+            edges.append(answered.get(call.client, 0) | (sources if sources.bit_count() == 1 else 0))
             if call.ending not in ("failed", "lost"):
                 answered[call.client] = 1 << i
         return edges
@@ -115,3 +115,13 @@ class Forced:
             return writers != 0
         delete = self.number[seen]
         return bool(past[delete] >> at & 1) or any(past[other] >> delete & 1 for other in members(writers & ~(1 << delete)))
+
+    def excludes(self, read, seen, other=None):
+        """Whether it is forced that a null read did not see the start or a delete, given by the place of its begin: since a write or a delete of
+        the key, given alike, had replaced it before; or without that, since the delete comes after the read or began after it had ended."""
+        past, at = Past(self.edges), self.number[read.place]
+        if other is None:
+            return seen is not START and (past[self.number[seen]] >> at & 1 or read.end < seen)
+        later = self.number[other]
+        is_before = past[at] & self.writers[read.key] & 1 << later
+        return bool(is_before) and (seen is START or bool(past[later] >> self.number[seen] & 1))

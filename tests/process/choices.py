@@ -7,7 +7,8 @@
   order of time, and every other one says so, or all with `--timed`. What `judge` says of each is compared with plain_choices.py. A `no`
   has to be one by every choice of what the null reads saw. Each line has to be that of the history by the forced choice. What is a `no`
   where all null reads are left out has to stay one. One in 2,000 logs may lack a `no` of the forced choice, if a write or a delete was
-  lost, since not all is found there, and one in 500 of the runs below.
+  lost, since not all is found there, and one in 500 of the runs below. Where `explain` says that an order explains every read, some choice
+  has to meet the criterion. Of a read that nothing is left for, each reason that `explain` gives has to hold.
 - The cuts of every ninth of these, by `judge --every 1`, which are judged in the order of time: each `no` of a cut is one of each later
   cut, and of the whole log judged in the order of time. The same by every choice of what the null reads saw.
 - The examples of plain_choices.py, which that program is tried on too.
@@ -21,57 +22,36 @@ program, without the order of time and with it.
 
 import argparse
 import itertools
-import pathlib
 import random
 import subprocess
-import tempfile
 from collections import Counter
 
 import folders  # noqa: F401
 import deleting_stores
+import order_remarks
 import plain_choices
 import plain_events
 import plain_forced
 from command_words import CRITERIA, with_program
 from counting import counted_faults, end
+from many_logs import answers_of, kept, said_of
 
-JUDGE = ["judge", "--long", "--events"]
-SECONDS, TOGETHER = 120, 100
+JUDGE, EXPLAIN = ["judge", "--long", "--events"], ["explain", "--long", "--events"]
+SECONDS = 120
 MOST_CHOICES, FIRST_CHOICES = 2_000, 50
 TABLE_RUNS, ENOUGH, CUT_OF = 60, 1_000, 9
 TIMED, ORDER = {False: "without the order of time", True: "in the order of time"}, b'["order","time"]\n'
 FOUND = {"lost write": (26, 34), "evicted key": (27, 38), "resurrected value": (21, 21), "any replica": (19, 24)}
 MISSED, MISSED_OF, MISSED_RUNS_OF = "lack a no of the forced choice where a call was lost", 2_000, 500
+ORDERS = ("are met by some choice", "have an order that explains every read")
 WAYS = ("every choice", "the log without null reads", "the forced choice", "the program")
+REASONS = ("replaced", "comes after it", "began after it had ended")
 SEEN = ("the start", "a delete", "more than one candidate", "no candidate", "a lost delete", "a pending delete")
 
 
-def lines_of_some(program, folder, logs):
-    """Of each log what the program says of each criterion, in the order of the logs."""
-    names = [str(folder / f"{number}.jsonl") for number in range(len(logs))]
-    for name, log in zip(names, logs):
-        pathlib.Path(name).write_bytes(log)
-    done = subprocess.run([*program, *JUDGE, *names], capture_output=True, check=False, timeout=SECONDS)
-    said = {}
-    for line in done.stdout.decode(errors="replace").splitlines():
-        name, _, text = line.rpartition(": ")
-        criterion, _, answer = text.partition(" ")
-        said.setdefault(name, {})[criterion] = answer
-    return [said.get(name, {}) for name in names]
-
-
 def lines_of(program, logs):
-    """The same, for some logs a run. An empty one is beside them: one log alone would have no name before its lines."""
-    with tempfile.TemporaryDirectory(prefix="choices-") as folder:
-        for first in range(0, len(logs), TOGETHER):
-            yield from lines_of_some(program, pathlib.Path(folder), [*logs[first : first + TOGETHER], b""])[:-1]
-
-
-def kept(log):
-    """The name of a file with a log, which stays."""
-    with tempfile.NamedTemporaryFile(prefix="choices-", suffix=".jsonl", delete=False) as file:
-        file.write(log)
-    return file.name
+    """Of each log what the program says of each criterion, in the order of the logs."""
+    return (answers_of(said.text) for said in said_of(program, JUDGE, logs))
 
 
 def refusing(kinds):
@@ -141,8 +121,42 @@ def late_faults(events):
     return [f"not in the order of time: the read at {late[0]}, the write at {late[1]}"] if late else []
 
 
-def log_faults(log, said, counts):
-    """What is wrong with what the program says of a tiny log. How often each thing came is counted."""
+def order_faults(text, by_all, is_timed, counts):
+    """What is wrong with what the words of the program say of a tiny log, which no choice meets by these criteria: where an order explains
+    every read, some choice has to meet the criterion. How often such an order was found is counted."""
+    try:
+        explained = order_remarks.explained_in(text)
+    except order_remarks.NotRead as fault:
+        return [f"words on reads that found nothing: {fault}"]
+    counts.update((what, is_timed, criterion) for what, some in zip(ORDERS, (set(CRITERIA) - by_all, explained)) for criterion in some)
+    return [f"{criterion}: an order is said to explain every read, and no choice meets it" for criterion in explained & by_all]
+
+
+def lacking_faults(found, forced, text, counts):
+    """What is wrong with what the words say of a read that nothing is left for: each candidate has to be named with a reason that holds."""
+    try:
+        said = order_remarks.lacking_in(text)
+    except order_remarks.NotRead as fault:
+        return [f"words on a read that nothing is left for: {fault}"]
+    if said is None:
+        is_lossy = any(call.ending == "lost" for call in forced.calls)
+        return [] if all(forced.left.values()) or is_lossy else ["no word on a read that nothing is left for"]
+    place = {line: place for place, line in enumerate(found.lines)}
+    [read] = [read for read in forced.reads if read.place == place[said.line]] or [None]
+    if read is None or forced.left[read.place]:
+        return [f"line {said.line}: something is left that it can have seen"]
+    named = {place.get(exclusion.delete, plain_forced.START) for exclusion in said.exclusions}
+    counts.update(exclusion.reason for exclusion in said.exclusions)
+    due = set(plain_events.Run(found.events, {}).candidates()[read.place])
+    wrong = [] if named <= due and len(named) + said.more == len(due) else [f"line {said.line}: {named} and {said.more} more, due {due}"]
+    for delete, reason, other in said.exclusions:
+        if not forced.excludes(read, place.get(delete, plain_forced.START), place.get(other)):
+            wrong.append(f"line {said.line}: {delete or 'the start'} {reason} {other or ''} does not hold")
+    return wrong
+
+
+def log_faults(log, said, text, counts):
+    """What is wrong with what the program says of a tiny log, in lines and in words. How often each thing came is counted."""
     found = plain_events.read_log(log)
     events, is_timed = found.events, found.is_timed
     forced = plain_events.Run(events, {}, is_timed).forced()
@@ -150,7 +164,9 @@ def log_faults(log, said, counts):
     counts["logs", is_timed] += 1
     counts.update(seen_of(forced))
     counts.update((way, is_timed, criterion) for way, some in zip(WAYS, (*ways, said_no(said))) for criterion in some)
-    return [*all_faults_of(forced, ways, said, counts), *late_faults(events)]
+    wrong = [] if answers_of(text) == said else [f"explain: {answers_of(text)}, judge: {said}"]
+    wrong += [*order_faults(text, ways[0], is_timed, counts), *lacking_faults(found, forced, text, counts)]
+    return [*wrong, *all_faults_of(forced, ways, said, counts), *late_faults(events)]
 
 
 def cut_choice_faults(events):
@@ -202,14 +218,15 @@ def tiny_faults(given, counts):
     """The faults of each tiny log, and of the examples of plain_choices.py, in which each kind of a null read comes."""
     logs = [tiny_log(given.seed, number, given.timed or number % 2 == 1) for number in range(given.logs)]
     logs += [plain_choices.log_of(*example.calls) for example in plain_choices.EXAMPLES.values()]
-    for log, said in zip(logs, lines_of(given.program, logs)):
-        wrong = log_faults(log, said, counts)
+    for log, said, words in zip(logs, lines_of(given.program, logs), said_of(given.program, EXPLAIN, logs)):
+        wrong = log_faults(log, said, words.text, counts)
         yield [kept(log), *wrong] if wrong else []
     for log in logs[::CUT_OF]:
         wrong = list(cut_faults(given.program, log, counts))
         yield [kept(log), *wrong] if wrong else []
     yield missed_faults(counts, given.logs, MISSED_OF)
-    for what in SEEN if given.logs >= ENOUGH else ():
+    orders = [(ORDERS[1], is_timed, criterion) for is_timed, criterion in itertools.product((False, True), CRITERIA) if is_timed or not given.timed]
+    for what in (*SEEN, *orders, *REASONS) if given.logs >= ENOUGH else ():
         yield [] if counts[what] else [f"never seen: {what}"]
 
 
@@ -266,11 +283,16 @@ def main():
     for is_timed, way in itertools.product(TIMED, WAYS):
         said = ", ".join(f"{criterion} {counts[way, is_timed, criterion]}" for criterion in CRITERIA)
         print(f"{counts['logs', is_timed]} tiny logs {TIMED[is_timed]} are a no by {way}: {said}")
+    for is_timed, what in itertools.product(TIMED, ORDERS):
+        said = ", ".join(f"{criterion} {counts[what, is_timed, criterion]}" for criterion in CRITERIA)
+        print(f"{counts['logs', is_timed]} tiny logs {TIMED[is_timed]} {what}: {said}")
     print(f"{counts[MISSED]} tiny logs {MISSED}")
     for what in ("cuts", "cuts with a no that a later one takes back"):
         print(f"{counts[what]:8} {what}")
     for what in SEEN:
         print(f"{counts[what]:8} null reads see {what}")
+    for reason in REASONS:
+        print(f"{counts[reason]:8} things were not seen, by the words: {reason}")
     end(passed, failed)
 
 

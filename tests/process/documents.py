@@ -84,7 +84,14 @@ SAID = {
     ),
 }
 DRIVEN = ("many_clients",)
-LOGGED = {"events_lost_write": (INITIAL, ""), "events_missing_post": (INITIAL, ""), "events_deletes": (STALE, ""), "events_torn": (YES, plain_events.NOT_WHOLE)}
+LOGGED = {
+    "events_lost_write": (INITIAL, ""),
+    "events_missing_post": (INITIAL, ""),
+    "events_deletes": (STALE, ""),
+    "events_vanished": (INITIAL, ""),
+    "events_flag": (YES, ""),
+    "events_torn": (YES, plain_events.NOT_WHOLE),
+}
 
 
 class Command(NamedTuple):

@@ -35,11 +35,13 @@ from typing import NamedTuple
 
 import folders  # noqa: F401
 import mangled
+import order_remarks
 import pictures
 import plain_events
 import random_logs
 from command_words import CRITERIA, with_program
 from counting import counted_faults, end
+from order_remarks import QUOTED
 from patterns import AGAINST, MemoryHistory, is_pattern, shows
 from plain_events import EXPLAINED_CUT, cuts_of, is_harmless, is_said
 from streams import is_unproved
@@ -54,9 +56,7 @@ JUDGE, EXPLAIN = ["judge", "--long", "--events"], ["explain", "--long", "--event
 LISTED = 20
 PIECE = 3
 MISSED, MISSED_OF = "a lost call beside which not all that is forced was found", 1_000
-ASK_NOTHING = re.compile(r"(\d+) reads? found nothing at .*: (?:it asks|they ask) nothing\.")
 LINE = re.compile(r"\bline (\d+)")
-QUOTED = re.compile(r'"(?:\\.|[^"\\])*"')
 OF_CALL = re.compile(r"  line (\d+)(?: \(call\))?: ")
 NOTE = re.compile(r"(?: \[note|;) of line (\d+): ")
 CUT = "\u2026"
@@ -270,13 +270,17 @@ def note_faults(data, found, text, seen):
 
 
 def remark_faults(found, run, text):
-    """What is wrong with what the words say of reads that ask nothing, and with the numbers of the lines of calls."""
+    """What is wrong with what the words say of reads that found nothing, and with the numbers of the lines of calls."""
     text = "\n".join(apart(words)[0] for words in text.splitlines())
-    many = len(run.left_out)
-    told = {int(number) for number in ASK_NOTHING.findall(text)}
+    due = (len(run.left_out), len(run.choice)) if run.left_out else None
     begins = {line for event, line in zip(found.events, found.lines) if event[0] == "begin"}
     named = {int(number) for number in LINE.findall(QUOTED.sub("", text))}
-    wrong = [] if told == ({many} if many else set()) else [f"{told} reads ask nothing, due {many}: {text!r}"]
+    try:
+        remark = order_remarks.remark_in(text)
+    except order_remarks.NotRead as fault:
+        return [f"words on reads that found nothing: {fault}"]
+    told = (remark.left_out, remark.asked) if remark else None
+    wrong = [] if told == due else [f"{told} reads are left out and asked, due {due}: {text!r}"]
     return wrong + ([f"no call begins on the lines {named - begins}: {text!r}"] if named - begins else [])
 
 

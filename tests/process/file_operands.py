@@ -25,6 +25,7 @@ LATE_LOG = b'["begin","b",["r","x"]]\n["end","b",2]\n["begin","a",["w","x",2]]\n
 STALE_MEMORY = b'["memory",[[["w",0,1],["r",0,0]]]]'
 MANY_SESSIONS = b'["memory",[' + b",".join(b'[["w",%d,1]]' % session for session in range(20)) + b"]]"
 COUNTER = b'["counter",[[["inc"],["get",1]]]]'
+SOURCES = ", reads that found nothing at deleted keys: with one possible source {}, several {}, none {}\n"
 FILES = {
     "log.jsonl": LOG,
     "stale.jsonl": STALE_LOG,
@@ -44,6 +45,8 @@ FILES = {
     "lines.jsonl": b'["memory",[[["w",0,1]]]]\n' + STALE_MEMORY + b"\n",
     "claim.json": b"[" + STALE_MEMORY + b',"cc",["WriteCOInitRead",[[0,0],[0,1]]]]',
     "asked.jsonl": b'["begin","a",["d","x"]]\n["end","a","ok"]\n["begin","a",["r","x"]]\n["end","a",null]\n',
+    "lacking.jsonl": b'["begin","a",["d","x"]]\n["end","a","ok"]\n["begin","a",["w","x",1]]\n["end","a","ok"]\n'
+    b'["begin","a",["r","x"]]\n["end","a",null]\n',
     "timed.jsonl": b'["order","time"]\n["begin","a",["r","x"]]\n["end","a",null]\n["begin","b",["d","x"]]\n["end","b","ok"]\n',
     "deletes.jsonl": b'["begin","a",["d","x"]]\n["end","a","ok"]\n["begin","b",["r","x"]]\n["end","b",null]\n'
     b'["begin","b",["w","y",1]]\n["lost","b"]\n["begin","b",["w","y",1]]\n["fail","b"]\n',
@@ -213,12 +216,14 @@ def cases_of_counts(runs):
     line = "clients 2, calls 2, writes 1, reads answered 1, lost 0, failed 0, reads that ask nothing 0, keys 1, values that repeat 0\n"
     yield "summary of a log", runs.said("judge", "--summary", "log.jsonl") == (0, MET, line)
     yield "summary by standard input", runs.said("judge", "--events", "--summary", given=LOG) == (0, MET, line)
-    line = "clients 2, calls 4, writes 3, reads answered 1, lost 1, failed 1, reads that ask nothing 1, keys 2, values that repeat 1\n"
-    yield "deletes and losses", runs.said("judge", "--summary", "deletes.jsonl")[2] == line
-    line = "clients 1, calls 2, writes 1, reads answered 1, lost 0, failed 0, reads that ask nothing 0, keys 1, values that repeat 0\n"
-    yield "a read that is forced asks", runs.said("judge", "--summary", "asked.jsonl")[2] == line
-    line = "clients 2, calls 2, writes 1, reads answered 1, lost 0, failed 0, reads that ask nothing 0, keys 1, values that repeat 0\n"
-    yield "a read before a delete asks in time", runs.said("judge", "--summary", "timed.jsonl")[2] == line
+    line = "clients 2, calls 4, writes 3, reads answered 1, lost 1, failed 1, reads that ask nothing 1, keys 2, values that repeat 1"
+    yield "deletes and losses", runs.said("judge", "--summary", "deletes.jsonl")[2] == line + SOURCES.format(0, 1, 0)
+    line = "clients 1, calls 2, writes 1, reads answered 1, lost 0, failed 0, reads that ask nothing 0, keys 1, values that repeat 0"
+    yield "a read that is forced asks", runs.said("judge", "--summary", "asked.jsonl")[2] == line + SOURCES.format(1, 0, 0)
+    line = "clients 1, calls 3, writes 2, reads answered 1, lost 0, failed 0, reads that ask nothing 0, keys 1, values that repeat 0"
+    yield "a read with nothing left", runs.said("judge", "--summary", "lacking.jsonl")[2] == line + SOURCES.format(0, 0, 1)
+    line = "clients 2, calls 2, writes 1, reads answered 1, lost 0, failed 0, reads that ask nothing 0, keys 1, values that repeat 0"
+    yield "a read before a delete asks in time", runs.said("judge", "--summary", "timed.jsonl")[2] == line + SOURCES.format(1, 0, 0)
     line = "clients 1, calls 2, writes 1, reads answered 1, lost 0, failed 0, reads that ask nothing 0, keys 1, values that repeat 0\n"
     yield "summary of a history", runs.said("judge", "--summary", "stale.json") == (0, STALE, line)
     yield "enough reads", runs.said("judge", "--at-least-reads", "1", "log.jsonl") == (0, MET, "")

@@ -33,3 +33,4 @@ pub mod Excluding
 pub mod ForcedFound
 pub mod ForcedReadsLaws
 pub mod ForcedPasses
+pub mod CheckedChoices

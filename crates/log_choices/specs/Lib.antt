@@ -3,6 +3,7 @@ pub mod ChosenHistories
 pub mod ChosenCriteria
 pub mod Forced
 pub mod Exclusions
+pub mod Checked
 pub mod TimedLogs
 pub mod Effects
 pub mod ChoiceTables

@@ -7,9 +7,11 @@
 //! At run time a choice is a table of what null reads saw, each [`Seen`], by the places of their begins (`specs/ChoiceTables`). By it
 //! [`history_by`] gives the history, [`origins_by`] for each operation of it the call, and [`left_out_by`] the reads that it leaves out.
 //! [`forced_reads`] finds what null reads saw that are left with one candidate: where the history by this choice does not meet a criterion,
-//! the log does not. The crate uses log_events and pattern_check.
+//! the log does not. [`walked_choice`] looks for a whole choice: where the history by that meets a criterion, the log does. The crate uses
+//! log_events and pattern_check.
 #![tactic(auto)]
 
+mod checked_choice;
 mod chosen_calls;
 mod chosen_history;
 mod client_calls;
@@ -22,6 +24,7 @@ mod forced_looks;
 mod forced_pass;
 mod forced_pasts;
 mod forced_plan;
+mod growing_order;
 pub mod laws;
 mod left_out;
 mod lost_calls;
@@ -30,9 +33,16 @@ mod origins;
 mod seen;
 mod sessions;
 mod timed;
+mod walk;
+mod walk_candidates;
+mod walk_map;
+mod walk_pasts;
+mod walk_turns;
+mod walking;
 
-pub use exclusions::{Exclusion, LackingRead, Reason};
 pub use chosen_history::{history_by, no_choice_leaves_null_reads_out, origins_by};
+pub use exclusions::{Exclusion, LackingRead, Reason};
 pub use forced::{ForcedReads, forced_reads};
 pub use left_out::left_out_by;
 pub use seen::Seen;
+pub use walk::{WALKS, Walk, walked_choice};

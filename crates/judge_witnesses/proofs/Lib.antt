@@ -1,0 +1,4 @@
+mod LongRenamed
+mod NoWitnesses
+mod RenamedAnswers
+mod RenamedMeets

@@ -1,0 +1,3 @@
+pub mod Renamed
+pub mod Relabelled
+pub mod Witnesses
