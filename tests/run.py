@@ -133,7 +133,6 @@ PARTS = (
     Part("events", lambda given: given.of("events", "1", given.many(5_000, 50_000), *given.longer())),
     Part("choices", lambda given: given.of("choices", "1", given.many(2_000, 20_000), given.many(60, 1_000), *given.longer())),
     Part("explained_reads", lambda given: given.of("explained_reads", given.many(60, 1_000))),
-    Part("repeated_values", lambda given: given.of("repeated_values", "1", given.many(1_000, 20_000), given.many(36, 360))),
     Part("summaries", lambda given: given.of("summaries", "1", given.many(500, 10_000))),
     Part("million_operations", lambda given: given.of("lines", "2", "1", "--operations", given.many(0, 1_000_000)), is_long=True),
     Part("streams", lambda given: given.of("streams", "--steps", given.many(20, 50))),

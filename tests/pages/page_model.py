@@ -15,7 +15,7 @@ ANSWERS = pathlib.Path(__file__).resolve().parent / "page_answers.js"
 MOST_SECONDS, NEAREST = 300, 6
 ABOUT_PARTS = ("These operations alone", "In the whole history", "In the log")
 QUOTED = re.compile(r'"((?!true"|false"|null")[A-Za-z_][\w.:/@+-]*)"')
-ASKS_NOTHING = re.compile(r"they ask nothing|it asks nothing")
+OF_NULL_READS = re.compile(r"deleted at some time\. Which|nothing is left that it can have seen")
 WITH_WRITE, HUGE = ("WriteCOInitRead", "WriteCORead"), 2**64 - 1
 
 
@@ -48,7 +48,7 @@ def word_faults(page, answer):
             continue
         found = verdict["words"]
         if page.is_log():
-            due, found = [plain(words) for words in due if not ASKS_NOTHING.search(words)], list(map(plain, found))
+            due, found = [plain(words) for words in due if not OF_NULL_READS.search(words)], list(map(plain, found))
         yield f"the words of {page.name}, {line}: {found} and not {due}", found == due
 
 

@@ -63,7 +63,8 @@ class Forced:
     def __init__(self, calls, started, is_timed=False):
         self.calls, self.reads = calls, null_reads(calls)
         self.number = {call.place: i for i, call in enumerate(calls)}
-        self.left, self.choice = candidates(calls, started, is_timed), {}
+        self.candidates, self.choice = candidates(calls, started, is_timed), {}
+        self.left = dict(self.candidates)
         self.first_delete = {read: next((seen for seen in left if seen is not START), START) for read, left in self.left.items()}
         self.writers = {}
         for i, call in enumerate(calls):
@@ -115,6 +116,11 @@ class Forced:
             return writers != 0
         delete = self.number[seen]
         return bool(past[delete] >> at & 1) or any(past[other] >> delete & 1 for other in members(writers & ~(1 << delete)))
+
+    def left_at_end(self, read):
+        """The candidates of a null read that are not out by all that is known at the end. What was found of a read before stays all the same."""
+        past = Past(self.edges)
+        return [seen for seen in self.candidates[read.place] if not self.is_out(past, read, seen)]
 
     def excludes(self, read, seen, other=None):
         """Whether it is forced that a null read did not see the start or a delete, given by the place of its begin: since a write or a delete of

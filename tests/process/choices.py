@@ -8,7 +8,8 @@
   has to be one by every choice of what the null reads saw. Each line has to be that of the history by the forced choice. What is a `no`
   where all null reads are left out has to stay one. One in 2,000 logs may lack a `no` of the forced choice, if a write or a delete was
   lost, since not all is found there, and one in 500 of the runs below. Where `explain` says that an order explains every read, some choice
-  has to meet the criterion. Of a read that nothing is left for, each reason that `explain` gives has to hold.
+  has to meet the criterion, and it has to say so of 99 in 100 logs that meet it by some choice. Of a read that nothing is left for, each
+  reason that `explain` gives has to hold.
 - The cuts of every ninth of these, by `judge --every 1`, which are judged in the order of time: each `no` of a cut is one of each later
   cut, and of the whole log judged in the order of time. The same by every choice of what the null reads saw.
 - The examples of plain_choices.py, which that program is tried on too.
@@ -43,6 +44,7 @@ TABLE_RUNS, ENOUGH, CUT_OF = 60, 1_000, 9
 TIMED, ORDER = {False: "without the order of time", True: "in the order of time"}, b'["order","time"]\n'
 FOUND = {"lost write": (26, 34), "evicted key": (27, 38), "resurrected value": (21, 21), "any replica": (19, 24)}
 MISSED, MISSED_OF, MISSED_RUNS_OF = "lack a no of the forced choice where a call was lost", 2_000, 500
+LEAST_EXPLAINED = 0.99
 ORDERS = ("are met by some choice", "have an order that explains every read")
 WAYS = ("every choice", "the log without null reads", "the forced choice", "the program")
 REASONS = ("replaced", "comes after it", "began after it had ended")
@@ -143,7 +145,7 @@ def lacking_faults(found, forced, text, counts):
         return [] if all(forced.left.values()) or is_lossy else ["no word on a read that nothing is left for"]
     place = {line: place for place, line in enumerate(found.lines)}
     [read] = [read for read in forced.reads if read.place == place[said.line]] or [None]
-    if read is None or forced.left[read.place]:
+    if read is None or forced.left_at_end(read):
         return [f"line {said.line}: something is left that it can have seen"]
     named = {place.get(exclusion.delete, plain_forced.START) for exclusion in said.exclusions}
     counts.update(exclusion.reason for exclusion in said.exclusions)
@@ -225,9 +227,11 @@ def tiny_faults(given, counts):
         wrong = list(cut_faults(given.program, log, counts))
         yield [kept(log), *wrong] if wrong else []
     yield missed_faults(counts, given.logs, MISSED_OF)
-    orders = [(ORDERS[1], is_timed, criterion) for is_timed, criterion in itertools.product((False, True), CRITERIA) if is_timed or not given.timed]
-    for what in (*SEEN, *orders, *REASONS) if given.logs >= ENOUGH else ():
+    for what in (*SEEN, *REASONS) if given.logs >= ENOUGH else ():
         yield [] if counts[what] else [f"never seen: {what}"]
+    for is_timed, criterion in itertools.product(TIMED, CRITERIA) if given.logs >= ENOUGH else ():
+        met, explained = (counts[what, is_timed, criterion] for what in ORDERS)
+        yield [] if explained >= LEAST_EXPLAINED * met else [f"{criterion} {TIMED[is_timed]}: {explained} of {met} tiny logs {ORDERS[1]}"]
 
 
 def run_faults(log, said, counts):

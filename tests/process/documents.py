@@ -89,7 +89,6 @@ LOGGED = {
     "events_missing_post": (INITIAL, ""),
     "events_deletes": (STALE, ""),
     "events_vanished": (INITIAL, ""),
-    "events_flag": (YES, ""),
     "events_torn": (YES, plain_events.NOT_WHOLE),
 }
 

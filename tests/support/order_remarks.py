@@ -7,7 +7,9 @@ from typing import NamedTuple
 QUOTED = re.compile(r'"(?:\\.|[^"\\])*"')
 NAMES = r"((?:cc|cm|ccv)(?:(?:, | and )(?:cc|cm|ccv))*)"
 ALL = r"(?:it|all of them)"
-REMARK = re.compile(r"(\d+) reads? found nothing at .*, which (?:is|are) deleted at some time\. Which deletes? (?:it|they) saw, if any, is not known(.*)")
+REMARK = re.compile(
+    r"(\d+) reads? found nothing at .*, which (?:is|are) deleted at some time\. Which deletes? (?:it|they) saw, if any, is not known(.*)"
+)
 NOT_ASKED = re.compile(r": (?:it asks|they ask) nothing\.")
 OF_EACH = re.compile(rf"\. An order explains {ALL}\.")
 FOUND = re.compile(rf"\. For {NAMES} an order explains {ALL}")

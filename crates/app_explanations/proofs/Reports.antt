@@ -21,7 +21,7 @@ use Rattle.app_findings.specs.declared.finding.Findings.{Findings}
 use Rattle.app_findings.specs.declared.kept.Kept.{Kept}
 use Rattle.app_findings.specs.declared.kept.Kept.TheVariants.{Answers}
 use Rattle.app_findings.specs.Answers.{IsKnownOnDistinctValues, IsLongTrueOf, NamesUnexplained}
-use Rattle.app_findings.specs.Findings.{EachIsFinding, EachIsFound, EachIsKnownOnDistinctValues, EachIsLongTrueOf, EachNamesUnexplained, IsFinding}
+use Rattle.app_findings.specs.Findings.{EachIsFound, EachIsLongTrueOf, IsFinding}
 use Rattle.app_findings.proofs.Each.{each_answer, each_of_three, found-is, found-known, found-names, found-true}
 use Rattle.app_findings.proofs.LongTruth.{within_true}
 use Rattle.app_explanations.specs.declared.clients.Clients.{Clients}
@@ -105,7 +105,8 @@ module _ (h : MemoryHistory) where
     pub long_open : ¬ IsDifferentiated h → IsLongFound h criterion (Unexplained None None)
     long_open repeated = record { is_finding = (repeated, tt, tt); is_true = tt; is_known = repeated; names = tt }
 
-  -- what a report on a history of any length has may be shown of it
-  pub long_report : (findings : Findings) → EachIsFinding (Memory h) findings → EachIsLongTrueOf (Memory h) findings
-      → EachIsKnownOnDistinctValues (Memory h) findings → EachNamesUnexplained (Memory h) findings → AreFindingsOf Any (Memory h) findings
-  long_report findings each truth known names = record { each = each; report = record { true_of = truth; unknown = known; unexplained = names } }
+  pub long_unknown : ¬ IsAnyHistory (Memory h) → ¬ IsDifferentiated h
+      → AreFindingsOf Any (Memory h) (record { cc = Unexplained None None; cm = Unexplained None None; ccv = Unexplained None None })
+  long_unknown over repeated =
+      long_findings over (record { cc = Unexplained None None; cm = Unexplained None None; ccv = Unexplained None None }) (long_open Cc repeated)
+      (long_open Cm repeated) (long_open Ccv repeated)

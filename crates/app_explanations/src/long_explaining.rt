@@ -2,6 +2,7 @@
 
 ghost use Rattle.std.specs.Prelude.{◌≡◌, IfOk, IfSome, IsTrue};
 ghost use Rattle.json_histories.specs.AnyForm.{IsAnyHistory};
+ghost use Rattle.order_memory.specs.Memory.{IsDifferentiated, MemoryHistory};
 ghost use Rattle.pattern_check.specs.Patterns.{IsShownBy, kind_of};
 ghost use Rattle.judge_decision.specs.LongDecisions.{AreDecided, IsLongDecided};
 ghost use Rattle.app_orders.specs.declared.length.Length.TheVariants.{Any};
@@ -10,7 +11,7 @@ ghost use Rattle.app_explanations.specs.Steps.Gathering.{ExcludesCriteria};
 ghost use Rattle.app_explanations.specs.Steps.LongFound.{IsLongFound};
 
 use crate::found::Found;
-use app_findings::{Finding, Findings, report_on_long};
+use app_findings::{Finding, Findings};
 use cert_check::Criterion;
 use json_histories::AnyHistory;
 use judge_cores::{Gathered, core_of_kind};
@@ -40,11 +41,9 @@ impl LongFindings {
 /// Why a memory history over the limits meets each criterion or does not, or why that is unknown.
 ///
 /// A `no` has a pattern if few operations show it by themselves: these are judged as a history of their own, and the pattern that is
-/// found there is tested in the whole. Else the `no` has its kind. Where values are not distinct, it is what [`report_on_long`] says: met if
-/// a witness is found, and else unknown, with no operation.
+/// found there is tested in the whole. Else the `no` has its kind. Unknown, with no operation, exactly where values are not distinct.
 ///
-/// Fails for want of memory alone. O(n (k + log n)) for n operations of k sessions, and a few times that where values are not distinct.
-#[tactic(auto, using(crate::proofs::Reports::long_report))]
+/// Fails for want of memory alone. O(n (k + log n)) for n operations of k sessions.
 pub(crate) fn findings_of_long<W: SessionWork>(
     work: &W,
     alloc: Global,
@@ -57,9 +56,21 @@ pub(crate) fn findings_of_long<W: SessionWork>(
     match LongIndex::of(alloc, history)? {
         Some(index) => findings_of_indexed(work, alloc, &index),
         None => Ok(LongFindings {
-            findings: report_on_long(work, alloc, history)?,
+            findings: nothing_known(),
             found: Vec::new(alloc),
         }),
+    }
+}
+
+// The findings where values are not distinct.
+fn nothing_known() -> Findings
+    ensures { (h : MemoryHistory) → ¬ IsDifferentiated h → ¬ IsAnyHistory (AnyHistory.Memory h)
+        → AreFindingsOf Any (AnyHistory.Memory h) result }
+{
+    Findings {
+        cc: Finding::Unexplained(None, None),
+        cm: Finding::Unexplained(None, None),
+        ccv: Finding::Unexplained(None, None),
     }
 }
 

@@ -69,10 +69,3 @@ module _ {E : Type 0} (kept : Kept) (history : AnyHistory) where
 pub each_answer : (holds : Criterion → Answer → Type 0) (findings : Findings) → holds Cc (answer_of findings.cc) → holds Cm (answer_of findings.cm)
     → holds Ccv (answer_of findings.ccv) → (criterion : Criterion) → holds criterion (answer_for findings criterion)
 each_answer holds findings of_cc of_cm of_ccv = each_of_three (λ k finding. holds k (answer_of finding)) findings of_cc of_cm of_ccv
-
--- what is left unknown, and what is named, follows from what each is found to be
-pub each_known : (history : AnyHistory) (findings : Findings) → EachIsFinding history findings → EachIsKnownOnDistinctValues history findings
-each_known history findings is criterion = known history criterion (finding_for findings criterion) (is criterion)
-
-pub each_names : (history : AnyHistory) (findings : Findings) → EachIsFinding history findings → EachNamesUnexplained history findings
-each_names history findings is criterion = names history criterion (finding_for findings criterion) (is criterion)

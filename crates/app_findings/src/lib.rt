@@ -3,7 +3,7 @@
 //! It gives [`Findings`] with [`Finding`], one for each criterion: a pattern, a certificate, or why it is not known.
 //! [`findings_of`] makes them, and keeps as much of what shows them as [`Kept`] says; [`report_on`] and [`report_on_long`] give
 //! answers alone. [`PieceWork`] says who checks the pieces of a certificate: the calling thread, or workers. It uses
-//! judge_decision, judge_witnesses, app_judging, judge_subhistories and the makers of certificates. How something is found may change: callers
+//! judge_decision, app_judging, judge_subhistories and the makers of certificates. How something is found may change: callers
 //! rest on the contracts, which say what is true of each finding.
 #![tactic(auto)]
 
@@ -16,7 +16,6 @@ mod of_long;
 mod of_memory;
 mod piece_work;
 mod pieces;
-mod witnesses;
 
 pub use finding::{Finding, Findings};
 pub use kept::Kept;

@@ -9,7 +9,6 @@ ghost use Rattle.app_findings.specs.Findings.{IsFinding, answer_of};
 
 use crate::finding::{Finding, Findings};
 use crate::of_any::report_on;
-use crate::witnesses::with_witnesses;
 use cert_check::Criterion;
 use json_histories::AnyHistory;
 use judge_decision::{LongDecision, SessionWork, decide_long};
@@ -22,9 +21,9 @@ use std::alloc::{AllocError, Global};
 ///
 /// For a history within the limits of [`History`](operations::History) they are those of [`report_on`]. Else it
 /// is decided: `Met` exactly where the history meets the criterion, and `Present` with the kind of a bad pattern that is present exactly
-/// where it does not. Where values are not distinct, it is `Met` if a witness is found, and else `Unexplained` with no operation.
+/// where it does not; `Unexplained` with no operation for all three criteria where values are not distinct.
 ///
-/// Fails for want of memory alone. O(n (k + log n)) for n operations of k sessions, and a few times that where values are not distinct.
+/// Fails for want of memory alone. O(n (k + log n)) for n operations of k sessions.
 pub fn report_on_long<W: SessionWork>(
     work: &W,
     alloc: Global,
@@ -48,25 +47,8 @@ pub fn report_on_long<W: SessionWork>(
 }
 
 // The same of a history over the limits.
-fn report_on_larger<W: SessionWork>(
-    work: &W,
-    alloc: Global,
-    history: &LongHistory,
-) -> Result<Findings, AllocError>
-    requires can_work { W.can_work work.now }
-    requires over { ¬ IsAnyHistory (AnyHistory.Memory history.now) }
-    ensures found { IfOk result (EachIsFinding (AnyHistory.Memory history.now)) }
-    ensures truth { IfOk result (EachIsLongTrueOf (AnyHistory.Memory history.now)) }
-    ensures unknown { IfOk result (EachIsKnownOnDistinctValues (AnyHistory.Memory history.now)) }
-    ensures unexplained { IfOk result (EachNamesUnexplained (AnyHistory.Memory history.now)) }
-{
-    let findings = report_by_decision(work, alloc, history)?;
-    with_witnesses(work, alloc, history, findings)
-}
-
-// The same by what is decided alone.
 #[tactic(auto, using(crate::proofs::Each::each_finding))]
-fn report_by_decision<W: SessionWork>(
+fn report_on_larger<W: SessionWork>(
     work: &W,
     alloc: Global,
     history: &LongHistory,

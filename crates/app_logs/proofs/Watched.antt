@@ -291,7 +291,7 @@ module _ (every : ℕ) (expected : Expected) (first written : Option (List ℕ))
   turned-more before source_after writer_before writer_after old new count judged wanted es outcome (Stopped followed) watched reads extends so_far is enough few same cut stopped =
       let more = reads watched.text watched.read in
       subst (λ (f : Followed). WritesCutsUpTo every expected first written writer_after f) (sym stopped.0)
-      (stops before source_after writer_before writer_after old new count more.0 (record { outcome = outcome; torn = false; late = None }) watched more.1 more.2 extends
+      (stops before source_after writer_before writer_after old new count more.0 (record { outcome = outcome; torn = false; late = None; says_order = false }) watched more.1 more.2 extends
       (next-count count wanted old.log.events new.log.events watched.events (is ∙ ap (λ n. n + every) so_far) enough few)
       (subst (λ (l : List Event). WritesCut expected l writer_before writer_after outcome) same cut) stopped.1 refl)
   turned-more before source_after writer_before writer_after old new count judged wanted es outcome (Ended followed) watched reads extends so_far is enough few same cut never =
@@ -306,9 +306,9 @@ module _ (every : ℕ) (expected : Expected) (first written : Option (List ℕ))
       → ReadsAll before source_after old new torn → Extends old.log new.log → judged ≡ length old.log.events → wanted ≡ judged + every
       → length new.log.events ≤ max wanted (length old.log.events)
       → es ≡ new.log.events → WritesLast expected es judged writer_before writer_after outcome
-      → WatchesLog every expected first source_after written writer_after (record { outcome = outcome; torn = torn; late = None })
+      → WatchesLog every expected first source_after written writer_after (record { outcome = outcome; torn = torn; late = None; says_order = false })
   turned-end before source_after writer_before writer_after old new count judged wanted es outcome torn watched reads extends so_far is few same last =
-      ends before source_after writer_before writer_after old new count (record { outcome = outcome; torn = torn; late = None }) watched (reads.log watched.text watched.read)
+      ends before source_after writer_before writer_after old new count (record { outcome = outcome; torn = torn; late = None; says_order = false }) watched (reads.log watched.text watched.read)
       reads.end extends
       (at-most count wanted old.log.events new.log.events watched.events (is ∙ ap (λ n. n + every) so_far) few)
       (subst (λ (n : ℕ). WritesLast expected new.log.events n writer_before writer_after outcome) (so_far ∙ watched.events)

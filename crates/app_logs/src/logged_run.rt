@@ -16,11 +16,11 @@ ghost use Rattle.app_logs.specs.Witnesses.{AreWitnesses};
 
 use crate::answering::answer_of_report;
 use crate::failure::LogError;
-use crate::forced_history::history_as_seen;
+use crate::forced_history::{forced_of, history_as_seen};
 use crate::line_numbers::lines_text;
 use crate::noting::notes_text;
 use crate::reading::{WholeLog, read_log};
-use crate::witnesses::{ForcedLog, witnesses_of};
+use crate::witnesses::{ForcedLog, none_wanted, witnesses_of};
 use crate::writing::{history_text, names_text};
 use app_engine::{
     Answered, Findings, PieceWork, RunError, SessionWork, explained_as, list_in_long,
@@ -29,7 +29,7 @@ use app_engine::{
 use app_orders::{LogJudging, LogOrder, LongForm};
 use json_lines::Source;
 use judge_memory::LongHistory;
-use log_choices::{ForcedReads, LackingRead, Seen, forced_reads, left_out_by, origins_by};
+use log_choices::{ForcedReads, LackingRead, Seen, left_out_by, origins_by};
 use log_events::LoggedCall;
 use log_reader::EventReader;
 use model_objects::Table;
@@ -108,7 +108,7 @@ impl LoggedRun {
             seen: saw,
             first_lacking: lacking,
             ..
-        } = forced_reads(alloc, reader.log(), reader.is_in_time())?;
+        } = forced_of(alloc, reader.log(), reader.is_in_time())?;
         let history = history_as_seen(alloc, reader.log(), &saw)?;
         let calls = origins_by(alloc, reader.log(), &saw)?;
         let left_out = left_out_by(alloc, reader.log(), &saw)?;
@@ -195,7 +195,7 @@ impl LoggedRun {
         ensures error { IfErr result (λ e. e ≡ RunError.Memory) }
     {
         if self.left_out.is_empty() {
-            return Ok(Witnesses::unwanted());
+            return Ok(none_wanted());
         }
         let report = self.report(work, alloc)?;
         let log = ForcedLog {
@@ -203,7 +203,9 @@ impl LoggedRun {
             in_time: self.reader.is_in_time(),
             forced: &self.saw,
         };
-        witnesses_of(work, alloc, log, &report)
+        let found = witnesses_of(work, alloc, &log, &report);
+        drop(report);
+        found
     }
 
     // The same, where a form of an explanation shows it.
@@ -219,7 +221,7 @@ impl LoggedRun {
     {
         match form {
             LongForm::Words => self.witnesses(work, alloc),
-            LongForm::Json | LongForm::Picture => Ok(Witnesses::unwanted()),
+            LongForm::Json | LongForm::Picture => Ok(none_wanted()),
         }
     }
 

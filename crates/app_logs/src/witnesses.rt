@@ -1,11 +1,12 @@
 //! Orders that explain every read of a log.
 
-ghost use Rattle.std.specs.Prelude.{◌≡◌, ◌⊎◌, IfErr, IfOk};
+ghost use Rattle.std.specs.Prelude.{◌≡◌, ◌⊎◌, Bool, IfErr, IfOk, List};
 ghost use Rattle.model_objects.specs.Table.{IsRising};
 ghost use Rattle.cert_check.specs.declared.criterion.Criterion.{Criterion};
 ghost use Rattle.live_case_board.specs.declared.answer.Answer.{Answer};
 ghost use Rattle.show_log_names.specs.Witnesses.{witness_for};
-ghost use Rattle.app_findings.specs.Findings.{answer_of};
+ghost use Rattle.log_events.specs.declared.event.Event.{Event as Happened};
+ghost use Rattle.app_findings.specs.Findings.{answer_for, answer_of};
 ghost use Rattle.app_logs.specs.Reports.{IsReportBy};
 ghost use Rattle.app_logs.specs.Witnesses.{AreWitnesses};
 
@@ -35,20 +36,27 @@ pub(crate) struct ForcedLog<'a> {
 pub(crate) fn witnesses_of<W: SessionWork>(
     work: &W,
     alloc: Global,
-    log: ForcedLog<'_>,
+    log: &ForcedLog<'_>,
     report: &Findings,
 ) -> Result<Witnesses, RunError>
     requires { W.can_work work.now }
-    ensures found { IfOk result (AreWitnesses log.in_time log.log.now) }
+    ensures found { IfOk result (AreWitnesses log.now.in_time log.now.log.now) }
     ensures error { IfErr result (λ e. e ≡ RunError.Memory) }
 {
     let mut witnesses = wanted_by(report);
-    'walks: for walk in WALKS {
+    for walk in WALKS {
         if witnesses.has(Witness::Missing) {
             witnesses = with_walk(work, alloc, log, walk, witnesses)?;
         }
     }
     Ok(witnesses)
+}
+
+/// Where no order is looked for.
+pub(crate) fn none_wanted() -> Witnesses
+    ensures { (in_time : Bool) (es : List Happened) → AreWitnesses in_time es result }
+{
+    Witnesses::unwanted()
 }
 
 // What is known before the first walk: orders are wanted where the answer is a yes.
@@ -77,13 +85,13 @@ fn wanted_for(finding: &Finding) -> Witness
 fn with_walk<W: SessionWork>(
     work: &W,
     alloc: Global,
-    log: ForcedLog<'_>,
+    log: &ForcedLog<'_>,
     walk: Walk,
     witnesses: Witnesses,
 ) -> Result<Witnesses, RunError>
     requires can_work { W.can_work work.now }
-    requires known { AreWitnesses log.in_time log.log.now witnesses }
-    ensures found { IfOk result (AreWitnesses log.in_time log.log.now) }
+    requires known { AreWitnesses log.now.in_time log.now.log.now witnesses }
+    ensures found { IfOk result (AreWitnesses log.now.in_time log.now.log.now) }
     ensures error { IfErr result (λ e. e ≡ RunError.Memory) }
 {
     let Some(saw) = walked_choice(alloc, log.log, log.in_time, log.forced, walk)? else {
@@ -91,11 +99,21 @@ fn with_walk<W: SessionWork>(
     };
     let report = report_by(work, alloc, log.log, &saw)?;
     a_yes_by_every_read_is_a_yes();
-    Ok(Witnesses {
+    let known = known_after(witnesses, &report);
+    drop(report);
+    Ok(known)
+}
+
+// What is known after a report by what every null read saw.
+fn known_after(witnesses: Witnesses, report: &Findings) -> Witnesses
+    ensures { (criterion : Criterion) → witness_for result criterion ≡ Witness.Found
+        → (witness_for witnesses criterion ≡ Witness.Found) ⊎ (answer_for report.now criterion ≡ Answer.Yes) }
+{
+    Witnesses {
         cc: found_in(witnesses.cc, &report.cc),
         cm: found_in(witnesses.cm, &report.cm),
         ccv: found_in(witnesses.ccv, &report.ccv),
-    })
+    }
 }
 
 // What is known for a criterion after a report by what every null read saw.

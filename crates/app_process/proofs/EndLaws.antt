@@ -94,7 +94,7 @@ module _ (label : Option (List ℕ)) where
   no_late late a none = let P : Option LateWrite → Type 0 = λ l. (text : List ℕ) × IsLateRemark label l text × Appends a a text in
       subst P (sym none) ([], refl, laws.appends_nothing a)
 
-  pub says_remarks : (order : LogOrder) (followed : Followed) (a b c d : Option (List ℕ)) → Appends a b (cut_remark label order followed)
+  pub says_remarks : (order : LogOrder) (followed : Followed) (a b c d : Option (List ℕ)) → Appends a b (cut_remark label order followed.outcome)
       → (text : List ℕ) × IsLateRemark label followed.late text × Appends b c text → Appends c d (torn_remark label followed.torn)
       → SaysRemarks label order followed a d
   says_remarks order followed a b c d cut late torn = (late.0, late.1, laws.said_after a b c d _ late.0 _ cut late.2 torn)

@@ -93,20 +93,17 @@ module _ (may : Fault → Type 0) (label : Option (List ℕ)) where
   EndsLines judging reader before after said_before said_after status =
       AnswersLines label judging reader before after said_before said_after status ⊎ FailsLines judging reader before after said_before said_after status
 
--- where the last cut of a log is not as expected: how to see why, where the first line of the log may say that its events stand in the order of
--- time, and is then none of its events
-abbrev pub explained_cut : Bool → List ℕ
-explained_cut false = codes "the last line begins with a number of events: head -n NUMBER FILE | causal_judge explain - says why"
-explained_cut true = codes "the last line begins with a number of events: head -n $((1 + NUMBER)) FILE | causal_judge explain - says why"
+-- where the last cut of a log is not as expected: how to see why
+abbrev pub explained_cut : List ℕ
+explained_cut = codes "the last line begins with a number of events: head -n NUMBER FILE | causal_judge explain - says why"
 
 abbrev pub is_excluded : Outcome → Bool
 is_excluded Excluded = true
 is_excluded _ = false
 
 module _ (label : Option (List ℕ)) where
-  abbrev pub cut_remark : LogOrder → Followed → List ℕ
-  cut_remark order followed =
-      if is_some (every_in order) && is_excluded followed.outcome then said_lines label (explained_cut followed.says_order) else []
+  abbrev pub cut_remark : LogOrder → Outcome → List ℕ
+  cut_remark order outcome = if is_some (every_in order) && is_excluded outcome then said_lines label explained_cut else []
 
   -- where a cut comes between a read and the write that it read: on which lines these are, if memory suffices to say so
   abbrev pub IsLateRemark : Option LateWrite → List ℕ → Type 0
@@ -121,7 +118,7 @@ module _ (label : Option (List ℕ)) where
   -- what is said of a log that was followed
   abbrev pub SaysRemarks : LogOrder → Followed → Known → Known → Type 0
   SaysRemarks order followed before after =
-      (late : List ℕ) × IsLateRemark followed.late late × Appends before after (cut_remark order followed ++ (late ++ torn_remark followed.torn))
+      (late : List ℕ) × IsLateRemark followed.late late × Appends before after (cut_remark order followed.outcome ++ (late ++ torn_remark followed.torn))
 
   -- and then perhaps of how much its run asks
   pub record SaysOfLog (order : LogOrder) (wanted : Bool) (followed : Followed) (before after : Known) : Type 0 where
@@ -129,7 +126,7 @@ module _ (label : Option (List ℕ)) where
     pub counts : List ℕ
     pub is_late : IsLateRemark followed.late late
     pub is_counts : wanted ≡ false → counts ≡ []
-    pub said : Appends before after ((cut_remark order followed ++ (late ++ torn_remark followed.torn)) ++ counts)
+    pub said : Appends before after ((cut_remark order followed.outcome ++ (late ++ torn_remark followed.torn)) ++ counts)
 
   -- an order on a log was carried out
   pub record AnswersLogOrder (order : LogOrder) (manner : Manner) (reader before after said_before said_after : Known) (status : ℕ) : Type 0 where

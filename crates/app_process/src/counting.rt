@@ -57,23 +57,34 @@ impl RunCounts {
     pub(crate) fn line(&mut self, alloc: Global) -> Result<String, AllocError> {
         self.keys.sort()?;
         self.pairs.sort()?;
+        let mut line = self.calls_words(alloc)?;
+        push_words(&mut line, self.endings_words(alloc)?)?;
+        push_words(&mut line, self.keys_words(alloc)?)?;
+        push_words(&mut line, sources_words(alloc, self.null_reads)?)?;
+        Ok(line)
+    }
+
+    // What the line says of calls.
+    fn calls_words(&self, alloc: Global) -> Result<String, AllocError> {
+        format!(in alloc;
+            "clients {}, calls {}, writes {}, reads answered {}",
+            self.clients, self.calls, self.writes, self.reads
+        )
+    }
+
+    // What it says of how calls ended.
+    fn endings_words(&self, alloc: Global) -> Result<String, AllocError> {
+        format!(in alloc;
+            ", lost {}, failed {}, reads that ask nothing {}",
+            self.lost, self.failed, self.null_reads.several
+        )
+    }
+
+    // What it says of keys and values, which are sorted.
+    fn keys_words(&self, alloc: Global) -> Result<String, AllocError> {
         let keys = distinct(self.keys.as_slice());
         let repeated = repeated(self.pairs.as_slice());
-        let sources = sources_words(alloc, self.null_reads)?;
-        format!(in alloc;
-            "clients {}, calls {}, writes {}, reads answered {}, lost {}, failed {}, reads that ask nothing {}, keys {}, \
-             values that repeat {}{}",
-            self.clients,
-            self.calls,
-            self.writes,
-            self.reads,
-            self.lost,
-            self.failed,
-            self.null_reads.several,
-            keys,
-            repeated,
-            sources.as_str()
-        )
+        format!(in alloc; ", keys {keys}, values that repeat {repeated}")
     }
 
     // Counts a write of a key, or a delete, which has no value.
@@ -163,6 +174,12 @@ fn counted_history(alloc: Global, history: &LongHistory) -> Result<RunCounts, Al
         }
     }
     Ok(counts)
+}
+
+// Puts words after others.
+fn push_words(line: &mut String, words: String) -> Result<(), AllocError> {
+    line.push_str(&words)?;
+    Ok(())
 }
 
 // What is said of reads that found nothing at keys that some delete names, where there are any.

@@ -5,7 +5,7 @@ ghost use Rattle.std.specs.Io.KnownBytes.{Appends};
 ghost use Rattle.std.specs.Option.{option_copied};
 ghost use Rattle.app_logs.specs.LogAnswers.{every_in};
 ghost use Rattle.app_process.specs.Faults.{Blames, ReadingFails, WritingFails};
-ghost use Rattle.app_process.specs.Endings.{EndsLog, IsLateRemark, SaysCounts, SaysRemarks, TellsOfLog, cut_remark, explained_cut, is_excluded};
+ghost use Rattle.app_process.specs.Endings.{EndsLog, IsLateRemark, SaysCounts, SaysRemarks, TellsOfLog, cut_remark, is_excluded};
 ghost use Rattle.app_process.specs.Endings.{torn_remark};
 ghost use Rattle.app_process.specs.Statuses.{status_after, wants_counts};
 
@@ -29,10 +29,6 @@ const TORN: &str = "last line is not whole: passed over";
 // How to see why the last cut is not as expected.
 const EXPLAINED_CUT: &str =
     "the last line begins with a number of events: head -n NUMBER FILE | causal_judge explain - says why";
-
-// The same, where the first line of the log is none of its events.
-const EXPLAINED_CUT_IN_TIME: &str =
-    "the last line begins with a number of events: head -n $((1 + NUMBER)) FILE | causal_judge explain - says why";
 
 /// Does what is ordered of a log, and returns the exit status.
 ///
@@ -108,7 +104,7 @@ fn say_of_log<P: AllocGlobal + Eprint + Wait, E: Say>(
 )
     ensures { SaysRemarks (option_copied place.now.label) order followed.now (E.said errors.old) (E.said errors.new) }
 {
-    say_cut(place, errors, order, followed);
+    say_cut(place, errors, order, followed.outcome);
     say_late(place, errors, followed.late);
     say_torn(place, errors, followed.torn);
 }
@@ -119,23 +115,12 @@ fn say_cut<P: AllocGlobal + Eprint + Wait, E: Say>(
     place: &Place<'_, P>,
     errors: &mut E,
     order: LogOrder,
-    followed: &Followed,
+    outcome: Outcome,
 )
-    ensures { Appends (E.said errors.old) (E.said errors.new) (cut_remark (option_copied place.now.label) order followed.now) }
+    ensures { Appends (E.said errors.old) (E.said errors.new) (cut_remark (option_copied place.now.label) order outcome) }
 {
-    if is_watched(order) && is_excluded(followed.outcome) {
-        place.say(errors, explained_cut(followed.says_order));
-    }
-}
-
-// How to see why the last cut of a log is not as expected, whose first line may say that its events stand in the order of time.
-fn explained_cut(says_order: bool) -> &'static str
-    ensures { result.now ≡ explained_cut says_order }
-{
-    if says_order {
-        EXPLAINED_CUT_IN_TIME
-    } else {
-        EXPLAINED_CUT
+    if is_watched(order) && is_excluded(outcome) {
+        place.say(errors, EXPLAINED_CUT);
     }
 }
 

@@ -22,7 +22,7 @@ module _ (in_time : Bool) (es : List Event) (read : NullRead) (writes : List Kep
   before-read n (v, at, key, before) w there =
       let same : v ≡ w = same_Some _ _ (sym at ∙ there) in (
         subst (λ (x : ℕ). BeginsWriteOf es x w.place) (subst (λ (u : Kept). u.key ≡ read.key) same key)
-        (begins-write in_time es w (all-at (IsKeptWrite in_time es) writes n w all there)),
+            (begins-write in_time es w (all-at (IsKeptWrite in_time es) writes n w all there)),
         subst (λ (u : Kept). Comes in_time es u.place read.place) same before,
       )
 

@@ -75,7 +75,12 @@ impl Plan {
     }
 
     /// Why a read can't have seen the start, if the key has none: by the first of these writes and deletes of the key.
-    fn start_exclusion(&self, timed: &Timed<'_>, read: NullRead, replacing: &[u32]) -> Option<Exclusion>
+    fn start_exclusion(
+        &self,
+        timed: &Timed<'_>,
+        read: NullRead,
+        replacing: &[u32],
+    ) -> Option<Exclusion>
         requires plan { IsPlan timed.now.in_time timed.now.log.now self.now }
         requires read { GetsNothing timed.now.log.now read }
         requires replacing { All (IsReplacing timed.now.in_time timed.now.log.now self.now.writes.items read.key read.place) replacing.now }

@@ -20,6 +20,7 @@ use std::alloc::{AllocError, Global};
 
 /// How often the calls of a short log are gone over at most, and those of a long one.
 const MAX_PASSES: usize = 8;
+
 const MIN_PASSES: usize = 2;
 
 /// How many calls are gone over, with all passes, of a log that is not short.

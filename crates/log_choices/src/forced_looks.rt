@@ -245,12 +245,7 @@ impl Plan {
     }
 
     /// The place of the first of some writes and deletes, by their numbers, that is known to come after a write.
-    pub(crate) fn replaced_by(
-        &self,
-        timed: &Timed<'_>,
-        write: &Kept,
-        by: &[u32],
-    ) -> Option<u32>
+    pub(crate) fn replaced_by(&self, timed: &Timed<'_>, write: &Kept, by: &[u32]) -> Option<u32>
         requires plan { IsPlan timed.now.in_time timed.now.log.now self.now }
         requires write { IsKeptWrite timed.now.in_time timed.now.log.now write.now }
         ensures { IfSome result (λ place. (number : ℕ) × (w : Written) × Contains by.now number

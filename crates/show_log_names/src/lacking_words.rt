@@ -42,7 +42,9 @@ fn read_words<T: LogTables>(
 ) -> Result<String, AllocError> {
     let line = tables.line(lacking.place);
     let key = key_words(alloc, tables, lacking.key)?;
-    format!(in alloc; "Line {line} found nothing at {key}, and nothing is left that it can have seen")
+    format!(in alloc;
+        "Line {line} found nothing at {key}, and nothing is left that it can have seen"
+    )
 }
 
 // Adds why it did not see a candidate.

@@ -44,7 +44,9 @@ fn asked_words(alloc: Global, asked: u64) -> Result<String, AllocError> {
     match asked {
         0 => Ok(String::new(alloc)),
         1 => format!(in alloc; " 1 more such read is asked: one thing alone can be what it saw."),
-        _ => format!(in alloc; " {asked} more such reads are asked: one thing alone can be what each saw."),
+        _ => format!(in alloc;
+            " {asked} more such reads are asked: one thing alone can be what each saw."
+        ),
     }
 }
 
@@ -79,7 +81,10 @@ fn witness_words(alloc: Global, is_one: bool, witnesses: Witnesses) -> Result<St
     };
     let found = criteria_with(alloc, witnesses, Witness::Found)?;
     let missing = criteria_with(alloc, witnesses, Witness::Missing)?;
-    match (witnesses.has(Witness::Found), witnesses.has(Witness::Missing)) {
+    match (
+        witnesses.has(Witness::Found),
+        witnesses.has(Witness::Missing),
+    ) {
         (false, false) => format!(in alloc; ": {ask} nothing."),
         (true, false) => format!(in alloc; ". An order explains {all}."),
         (false, true) => missing_words(alloc, missing.as_str(), all),

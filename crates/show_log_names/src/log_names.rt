@@ -4,9 +4,9 @@ ghost use Rattle.std.specs.Prelude.{◌≡◌, IfOk, string_bytes};
 ghost use Rattle.log_reader.specs.EventLines.{line_at};
 ghost use Rattle.show_log_names.specs.OperationLines.{is_of_lost_call, number_name, operation_name, role};
 
-use crate::log_tables::{LogTables, StoodFor};
 use crate::lacking_words::lacking_words;
 use crate::left_out_words::{MAX_KEYS, left_out_words};
+use crate::log_tables::{LogTables, StoodFor};
 use crate::notes::with_notes;
 use crate::phrases::{
     call_label, call_words, client_name, fork_label, fork_words, key_words, lost_call, value_name,

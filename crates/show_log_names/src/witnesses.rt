@@ -1,6 +1,7 @@
 //! For which criteria an order is known that explains every read of a log.
 
 ghost use Rattle.std.specs.Prelude.{◌≡◌};
+ghost use Rattle.cert_check.specs.declared.criterion.Criterion.{Criterion};
 ghost use Rattle.show_log_names.specs.Witnesses.{witness_for};
 
 use cert_check::Criterion;
@@ -30,7 +31,9 @@ pub struct Witnesses {
 impl Witnesses {
     /// Where no order is looked for.
     pub fn unwanted() -> Witnesses
-        ensures { result ≡ record { cc = Witness.Unwanted; cm = Witness.Unwanted; ccv = Witness.Unwanted } }
+        ensures causal_consistency { witness_for result Criterion.Cc ≡ Witness.Unwanted }
+        ensures causal_memory { witness_for result Criterion.Cm ≡ Witness.Unwanted }
+        ensures causal_convergence { witness_for result Criterion.Ccv ≡ Witness.Unwanted }
     {
         Witnesses {
             cc: Witness::Unwanted,

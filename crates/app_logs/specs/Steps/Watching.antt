@@ -40,7 +40,7 @@ BeginsLast events judged before after = ((length events ≢ judged) ⊎ (judged 
 -- the judging goes on after a cut where what was expected came of it, and else stops there
 abbrev pub GoesOnBy : Outcome → Turn → Type 0
 GoesOnBy outcome On = outcome ≡ Met
-GoesOnBy outcome (Stopped followed) = (followed ≡ record { outcome = outcome; torn = false; late = None }) × (outcome ≢ Met)
+GoesOnBy outcome (Stopped followed) = (followed ≡ record { outcome = outcome; torn = false; late = None; says_order = false }) × (outcome ≢ Met)
 GoesOnBy outcome (Ended followed) = ⊥
 
 module _ (every : ℕ) (expected : Expected) (source_before source_after writer_before writer_after : Option (List ℕ)) where

@@ -10,8 +10,7 @@ use Rattle.log_choices.proofs.forced_pass.pass.Goals.{then-client-len+in_ok-adva
 
 pub loop-call-init : goal.loop-call-init
 loop-call-init c =
-    let pasts = c.in_ok-pasts.pasts.items in
-    (
+    let pasts = c.in_ok-pasts.pasts.items in (
       subst (λ (t : List (ℕ × Seen)). IsPassed c.args.timed.now.in_time c.args.timed.now.log.now 0 c.args.plan.now pasts t) (sym (c.replace-earlier.ensures.after ∙ c.new.ensures))
           (passed-first c.args.timed.now.in_time c.args.timed.now.log.now c.args.plan.now pasts c.requires.plan c.in_ok-pasts.ensures),
       c.requires.lacking,
@@ -57,9 +56,11 @@ loop-call-preserved c =
           let old = w.index_mut.result.now in
           let long : length new ≡ old.len = omega arith in
           let whole : take old.len (new ++ drop (length new) old.items) ≡ new = take_at new (drop (length new) old.items) old.len long in
-          rw (w.plan-is, w.pasts-is, w.found-is)
-          ((passed-next in_time es i k plan w.advance.new.plan pasts _ table w.advance.new.found.seen a c.loop-call.invariant.0 at
-          c.client-client.ensures w.in_ok-advance.ensures.plan
-          (subst (IsPastFrom in_time es a.client (a.place + 1)) (sym whole) w.in_ok-advance.ensures.past) w.in_ok-advance.ensures.found), w.in_ok-advance.ensures.lacking)
+          rw (w.plan-is, w.pasts-is, w.found-is) (
+            (passed-next in_time es i k plan w.advance.new.plan pasts _ table w.advance.new.found.seen a c.loop-call.invariant.0 at
+                c.client-client.ensures w.in_ok-advance.ensures.plan
+                (subst (IsPastFrom in_time es a.client (a.place + 1)) (sym whole) w.in_ok-advance.ensures.past) w.in_ok-advance.ensures.found),
+            w.in_ok-advance.ensures.lacking,
+          )
       | else-client-len w ↦ rw (w.plan-is, w.pasts-is, w.found-is) (passed-over in_time es i plan pasts table c.loop-call.invariant.0, c.loop-call.invariant.1)
     ]

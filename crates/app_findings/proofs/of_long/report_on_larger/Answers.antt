@@ -1,7 +1,7 @@
 use Rattle.json_histories.specs.declared.any_history.AnyHistory.TheVariants as histories
 use Rattle.app_findings.specs.Answers.{IsLongTrueOf}
 use Rattle.app_findings.proofs.Each.{each_answer}
-use Rattle.app_findings.proofs.of_long.report_by_decision.Goals as goal
+use Rattle.app_findings.proofs.of_long.report_on_larger.Goals as goal
 
 pub returns-clause-truth : goal.returns-clause-truth
 returns-clause-truth g c = record {
